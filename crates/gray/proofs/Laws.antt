@@ -1,0 +1,264 @@
+-- What a turn of each loop adds, and what a stage's answer says, over plain lists and numbers. Assumes nothing.
+use Prim.Native.Nat.{ℕ, zero, suc, _+_, _-_, _*_, _/_, _%_, _^_, _≤_, _<_}
+use native.Mathlib.Nat.{mul-le-mul, div-lt-iff-lt-mul, le-div-iff-mul-le, mul-comm, mod-lt, add-comm, add-zero}
+use native.Mathlib.Decide.{decLe}
+use native.Mathlib.Omega.{arith}
+use mathlib.Core.Path.{_≡_, refl, sym, ap, ap₂, _∙_}
+use mathlib.Core.Bool.{Bool, true, false, cond, not, _&&_, _||_}
+use mathlib.Core.List.{List, [], _∷_, _++_, reverse-cons}
+use borrow.Author.Tests.{eq-eqb, ne-eqb, lt-ltb, le-ltb, le-leb, lt-leb, ltb-true, ltb-false}
+use lib.Bits.{bitAnd, bitOr, and-mask, or-shifted-r, or-zero-r}
+use lib.Dec.{eqb, leb, ltb}
+use lib.ListN.{length, getD, set, take, drop, length-reverse}
+use lib.Seq.{drop-cons, lt-length-set, getD-set-same, drop-set-lt, append-snoc}
+use mir.Val.{boolByte}
+use Rattle.gray.specs.MoveBytes.{moveByte, moveDigit, moveDown}
+use Rattle.gray.specs.Answers.{Answer, given, refused}
+use Rattle.gray.specs.Radices.{digits, bytes, size, allFrom, wrongCount}
+use Rattle.gray.specs.Calls.{sizeCall, rankCall, wordCall}
+use Rattle.gray.specs.Refusals.{accepted, radices-accepted}
+use Rattle.gray.specs.Stages.{productAs, checkedAs, checkNumber}
+use Rattle.gray.specs.declared.Checked.{Checked}
+use Rattle.gray.specs.declared.Checked.the-variants.{Fine, Refused as CheckRefused}
+use Rattle.gray.specs.declared.Product.{Product}
+use Rattle.gray.specs.declared.Product.the-variants.{Within, Over}
+use Rattle.gray.specs.Words.{isWord, reflect, rank, member}
+use Rattle.gray.specs.Members.{wordAt, member-is-wordAt}
+use Rattle.gray.specs.Rulers.{length-wordAt}
+use Rattle.gray.specs.Ranks.{rank-below}
+use Rattle.gray.specs.Digits.{digits-more, taken, allFrom-weaker, size-taken, isWord-taken, word-long}
+
+-- ---- all_two
+pub tested-more : (k : ℕ) (l : List ℕ) (i : ℕ) (ok : Bool) → i < length l → ok ≡ allFrom k (digits (take i l)) → leb k (getD l i 0) && ok ≡ allFrom k (digits (take (i + 1) l))
+unfolding allFrom
+tested-more k l i ok h e = rw (digits-more l i h) (ap (λ t. leb k (getD l i 0) && t) e)
+
+pub tested-all : (k : ℕ) (l : List ℕ) (i : ℕ) (ok : Bool) → length l ≤ i → ok ≡ allFrom k (digits (take i l)) → ok ≡ allFrom k (digits l)
+tested-all k l i ok h e = e ∙ ap (λ t. allFrom k (digits t)) (taken l i h)
+
+-- ---- products within 2^62 and over it
+pub within : (n : ℕ) → n ≤ 2 ^ 62 → Within n ≡ productAs n
+within n h = rw (le-ltb (2 ^ 62) n h)
+
+pub over : (n : ℕ) → 2 ^ 62 < n → Over ≡ productAs n
+over n h = rw (lt-ltb (2 ^ 62) n h)
+
+pub within-says : (n q : ℕ) → productAs n ≡ Within q → (q ≡ n) × (q ≤ 2 ^ 62)
+within-says n q e = go (ltb (2 ^ 62) n) refl
+  where
+    go : (b : Bool) → ltb (2 ^ 62) n ≡ b → (q ≡ n) × (q ≤ 2 ^ 62)
+    go true t = let z : _≡_ {A = ℕ} 0 1 = cc in absurd (omega arith)
+    go false t = let same : q ≡ n = cc in let small = ltb-false (2 ^ 62) n t in (same, omega arith)
+
+pub over-says : (n : ℕ) → productAs n ≡ Over → 2 ^ 62 < n
+over-says n e = go (ltb (2 ^ 62) n) refl
+  where
+    go : (b : Bool) → ltb (2 ^ 62) n ≡ b → 2 ^ 62 < n
+    go true t = ltb-true (2 ^ 62) n t
+    go false t = let z : _≡_ {A = ℕ} 0 1 = cc in absurd (omega arith)
+
+-- a small product and a radix
+pub small-product : (m p : ℕ) → m < 256 → p ≤ 2 ^ 54 → m * p ≤ 2 ^ 62
+small-product m p h k = let b : m ≤ 255 = omega arith in let t = mul-le-mul b k in omega arith
+
+-- the division tells whether the product is over
+pub divided-over : (m p : ℕ) → 0 < m → 2 ^ 62 / m < p → 2 ^ 62 < m * p
+divided-over m p pos h = let t = div-lt-iff-lt-mul pos .0 h in rw (mul-comm m p) t
+
+pub divided-within : (m p : ℕ) → 0 < m → p ≤ 2 ^ 62 / m → m * p ≤ 2 ^ 62
+divided-within m p pos h = rw (mul-comm m p) (le-div-iff-mul-le pos .0 h)
+
+-- ---- product_of
+pub size-more : (l : List ℕ) (i m p : ℕ) → i < length l → m ≡ getD l i 0 → p ≡ size (digits (take i l)) → m * p ≡ size (digits (take (i + 1) l))
+unfolding size
+size-more l i m p h e f = rw (digits-more l i h, e, f)
+
+pub product-over : (l : List ℕ) (i m p : ℕ) → allFrom 2 (digits l) ≡ true → i < length l → m ≡ getD l i 0 → p ≡ size (digits (take i l)) → productAs (m * p) ≡ Over → Over ≡ productAs (size (digits l))
+product-over l i m p two h e f o =
+    let large = over-says (m * p) o in
+    let more = size-more l i m p h e f in
+    let rest = size-taken l (i + 1) (allFrom-weaker 2 1 (digits l) (omega arith) two) in
+    over (size (digits l)) (omega arith)
+
+pub size-all : (l : List ℕ) (i p : ℕ) → length l ≤ i → p ≡ size (digits (take i l)) → p ≤ 2 ^ 62 → Within p ≡ productAs (size (digits l))
+size-all l i p h e b = within p b ∙ ap productAs (e ∙ ap (λ t. size (digits t)) (taken l i h))
+
+-- ---- size
+module _ (l : List ℕ) where
+  same-count : (eqb (length l) 0 || ltb 48 (length l)) ≡ wrongCount (digits l)
+  same-count = ap (λ n. eqb n 0 || ltb 48 n) (sym (length-reverse l))
+
+  pub count-refused : (eqb (length l) 0 || ltb 48 (length l)) ≡ true → refused 2 ≡ sizeCall l
+  unfolding sizeCall
+  count-refused e = rw (sym same-count ∙ e)
+
+  pub radix-refused : (eqb (length l) 0 || ltb 48 (length l)) ≡ false → allFrom 2 (digits l) ≡ false → refused 3 ≡ sizeCall l
+  unfolding sizeCall
+  radix-refused e f = rw (sym same-count ∙ e, f)
+
+  pub size-refused : (eqb (length l) 0 || ltb 48 (length l)) ≡ false → allFrom 2 (digits l) ≡ true → productAs (size (digits l)) ≡ Over → refused 4 ≡ sizeCall l
+  unfolding sizeCall
+  size-refused e f o = rw (sym same-count ∙ e, f, lt-ltb (2 ^ 62) (size (digits l)) (over-says (size (digits l)) o))
+
+  pub size-given : (n : ℕ) → (eqb (length l) 0 || ltb 48 (length l)) ≡ false → allFrom 2 (digits l) ≡ true → productAs (size (digits l)) ≡ Within n → given n ≡ sizeCall l
+  unfolding sizeCall
+  size-given n e f w =
+      let said = within-says (size (digits l)) n w in
+      let small : size (digits l) ≤ 2 ^ 62 = omega arith in
+      rw (sym same-count ∙ e, f, le-ltb (2 ^ 62) (size (digits l)) small) (ap given (said .0))
+
+-- ---- all_below
+pub below-more : (l w : List ℕ) (i : ℕ) (ok : Bool) → i < length l → length w ≡ length l → ok ≡ isWord (digits (take i l)) (digits (take i w)) → ltb (getD w i 0) (getD l i 0) && ok ≡ isWord (digits (take (i + 1) l)) (digits (take (i + 1) w))
+unfolding isWord
+below-more l w i ok h same e =
+    rw (digits-more l i h, digits-more w i (omega arith)) (ap (λ t. ltb (getD w i 0) (getD l i 0) && t) e)
+
+pub below-all : (l w : List ℕ) (i : ℕ) (ok : Bool) → length l ≤ i → length w ≡ length l → ok ≡ isWord (digits (take i l)) (digits (take i w)) → ok ≡ isWord (digits l) (digits w)
+below-all l w i ok h same e = e ∙ ap₂ (λ t u. isWord (digits t) (digits u)) (taken l i h) (taken w i (omega arith))
+
+-- ---- rank_from
+module _ (l w : List ℕ) (one : isWord (digits l) (digits w) ≡ true) where
+  pub rank-more : (i p m a b : ℕ)
+      → i < length l
+      → m ≡ getD l i 0
+      → a ≡ getD w i 0
+      → p ≡ rank (digits (take i l)) (digits (take i w))
+      → b ≡ reflect m p a
+      → p * m + b ≡ rank (digits (take (i + 1) l)) (digits (take (i + 1) w))
+  unfolding rank
+  rank-more i p m a b h em ea ep eb =
+      let long = word-long l w one in
+      rw (digits-more l i h, digits-more w i (omega arith), eb, em, ea, ep)
+
+  -- a rank of the slowest digits is below N, so nothing overflows
+  pub rank-small : (i : ℕ) → allFrom 2 (digits l) ≡ true → size (digits l) ≤ 2 ^ 62 → rank (digits (take i l)) (digits (take i w)) < 2 ^ 62
+  rank-small i two limit =
+      let below = rank-below (digits (take i l)) (digits (take i w)) (isWord-taken l w i one) in
+      let part = size-taken l i (allFrom-weaker 2 1 (digits l) (omega arith) two) in
+      omega arith
+
+  pub rank-all : (i p : ℕ) → length l ≤ i → p ≡ rank (digits (take i l)) (digits (take i w)) → p ≡ rank (digits l) (digits w)
+  rank-all i p h e =
+      let long = word-long l w one in
+      e ∙ ap₂ (λ t u. rank (digits t) (digits u)) (taken l i h) (taken w i (omega arith))
+
+-- ---- check_word and rank
+pub no-word : (l w : List ℕ) → (length w ≡ length l → ⊥) → isWord (digits l) (digits w) ≡ false
+no-word l w n = go (isWord (digits l) (digits w)) refl
+  where
+    go : (b : Bool) → isWord (digits l) (digits w) ≡ b → isWord (digits l) (digits w) ≡ false
+    go true e = absurd (n (word-long l w e))
+    go false e = e
+
+pub fine-says : (b : Bool) → checkedAs b ≡ Fine → b ≡ true
+fine-says true e = refl
+fine-says false e = let z : _≡_ {A = ℕ} 0 1 = cc in absurd (omega arith)
+
+pub refused-says : (b : Bool) (k : ℕ) → checkedAs b ≡ CheckRefused k → (b ≡ false) × (8 ≡ k)
+refused-says true k e = let z : _≡_ {A = ℕ} 0 1 = cc in absurd (omega arith)
+refused-says false k e = (refl, cc)
+
+module _ (l w : List ℕ) (n : ℕ) (size-is : sizeCall l ≡ given n) where
+  pub word-refused : (o : Checked) (x number : ℕ)
+      → o ≡ checkedAs (isWord (digits l) (digits w))
+      → o ≡ CheckRefused x
+      → number ≡ checkNumber o
+      → refused number ≡ rankCall l w
+  unfolding rankCall
+  word-refused o x number e f g =
+      let said = refused-says (isWord (digits l) (digits w)) x (sym e ∙ f) in
+      let same : number ≡ 8 = g ∙ ap checkNumber f ∙ sym (said .1) in
+      ap refused same ∙ sym (radices-accepted l n _ size-is ∙ rw (said .0))
+
+  pub rank-given : isWord (digits l) (digits w) ≡ true → given (rank (digits l) (digits w)) ≡ rankCall l w
+  unfolding rankCall
+  rank-given e = sym (radices-accepted l n _ size-is ∙ rw e)
+
+-- ---- put_word
+drop-stored : (out : List ℕ) (i a : ℕ) → i < length out → drop i (set out i a) ≡ a ∷ drop (suc i) out
+drop-stored out i a h =
+    drop-cons (set out i a) i 0 (lt-length-set out i a h)
+    ∙ rw (getD-set-same out i a 0 h, drop-set-lt (suc i) out i a (omega arith))
+
+-- a turn moves one digit from the word that is still to be written to the bytes that are there
+pub put-more : (l out whole : List ℕ) (j q m a : ℕ)
+    → 0 < j
+    → j ≤ length l
+    → length l ≤ length out
+    → m ≡ getD l (j - 1) 0
+    → a ≡ reflect m (q / m) (q % m)
+    → bytes (wordAt (digits (take j l)) q) ++ drop j out ≡ whole
+    → bytes (wordAt (digits (take (j - 1) l)) (q / m)) ++ drop (j - 1) (set out (j - 1) a) ≡ whole
+unfolding wordAt
+put-more l out whole j q m a pos h room em ea e =
+    let i = j - 1 in
+    let next : j ≡ i + 1 = omega arith in
+    let nexts : j ≡ suc i = omega arith in
+    let w = wordAt (digits (take i l)) (q / m) in
+    let split : wordAt (digits (take j l)) q ≡ a ∷ w =
+    ap (λ k. wordAt (digits (take k l)) q) next ∙ ap (λ ds. wordAt ds q) (digits-more l i (omega arith)) ∙ rw (ea, em) in
+    ap (λ r. bytes w ++ r) (drop-stored out i a (omega arith))
+    ∙ sym (append-snoc (bytes w) a (drop (suc i) out))
+    ∙ ap (λ b. b ++ drop (suc i) out) (sym (reverse-cons a w))
+    ∙ ap₂ (λ d k. bytes d ++ drop k out) (sym split) (sym nexts)
+    ∙ e
+
+pub put-all : (l out whole : List ℕ) (i q : ℕ) → i ≤ 0 → bytes (wordAt (digits (take i l)) q) ++ drop i out ≡ whole → out ≡ whole
+unfolding wordAt
+put-all l out whole zero q h e = e
+put-all l out whole (suc i) q h e = absurd (omega arith)
+
+-- ---- word
+pub word-long-as : (l : List ℕ) (r : ℕ) → length l ≡ length (bytes (wordAt (digits l) r))
+word-long-as l r =
+    let a = length-reverse (wordAt (digits l) r) in
+    let b = length-wordAt (digits l) r in
+    let c = length-reverse l in
+    omega arith
+
+word-count : (l : List ℕ) (r : ℕ) → r < size (digits l) → length l ≡ length (bytes (member (digits l) r))
+word-count l r h = word-long-as l r ∙ ap (λ w. length (bytes w)) (sym (member-is-wordAt (digits l) r h))
+
+module _ (l : List ℕ) (n r : ℕ) (size-is : sizeCall l ≡ given n) where
+  pub rank-refused : (room : ℕ) → n ≤ r → wordCall l r room ≡ refused 8
+  unfolding wordCall
+  rank-refused room h =
+      let same = accepted l n size-is .whole in
+      radices-accepted l n _ size-is ∙ rw (le-leb (size (digits l)) r (omega arith))
+
+  pub room-refused : (room : ℕ) → r < n → room < length l → wordCall l r room ≡ refused 9
+  unfolding wordCall
+  room-refused room h short =
+      let same = accepted l n size-is .whole in
+      let long = word-count l r (omega arith) in
+      radices-accepted l n _ size-is
+      ∙ rw (lt-leb (size (digits l)) r (omega arith), lt-ltb room (length (bytes (member (digits l) r))) (omega arith))
+
+  pub word-given : (room : ℕ) → r < n → length l ≤ room → wordCall l r room ≡ given (bytes (wordAt (digits l) r))
+  unfolding wordCall
+  word-given room h fits =
+      let same = accepted l n size-is .whole in
+      let below : r < size (digits l) = omega arith in
+      let long = word-count l r below in
+      radices-accepted l n _ size-is
+      ∙ rw (lt-leb (size (digits l)) r below, le-ltb room (length (bytes (member (digits l) r))) (omega arith))
+      (ap (λ w. given (bytes w)) (member-is-wordAt (digits l) r below))
+
+-- ---- move bytes
+pub masked : (b : ℕ) → bitAnd b 127 ≡ moveDigit b
+unfolding moveDigit
+masked b = and-mask b 7
+
+pub packed : (d : ℕ) (down : Bool) → bitOr (bitAnd d 127) (boolByte down * 128 % 256) ≡ moveByte d down
+unfolding moveByte
+packed d true =
+    ap (λ x. bitOr x 128) (and-mask d 7) ∙ or-shifted-r 1 7 (d % 128) (mod-lt d (omega arith)) ∙ add-comm 128 (d % 128)
+packed d false = ap (λ x. bitOr x 0) (and-mask d 7) ∙ or-zero-r (d % 128) ∙ sym (add-zero (d % 128))
+
+pub shifted : (b : ℕ) → b < 256 → eqb (b / 128) 1 ≡ moveDown b
+unfolding moveDown
+shifted b h =
+    elim (decLe 128 b) [
+      | yes p ↦ eq-eqb (b / 128) 1 (omega arith) ∙ sym (le-leb 128 b p)
+      | no n ↦ ne-eqb (b / 128) 1 (λ e. omega arith) ∙ sym (lt-leb 128 b (omega arith))
+    ]

@@ -1,0 +1,42 @@
+-- `gray::all_two` meets its contract: after i turns it has tested the slowest i radices. Assumes nothing.
+use Prim.Native.Nat.{_≤_, _-_}
+use mathlib.Core.Path.{_≡_, refl, sym, ap, _∙_}
+use native.Mathlib.Omega.{arith}
+use lib.ListN.{length, take, getD}
+use lib.Dec.{leb}
+use mathlib.Core.Bool.{_&&_}
+use Rattle.gray.specs.Radices.{digits, allFrom}
+use Rattle.gray.proofs.Laws.{tested-more, tested-all}
+use Rattle.gray.proofs.all_two.Statement.{statement}
+use Rattle.gray.proofs.all_two.Tie as tie
+use Rattle.gray.proofs.all_two.Reads as reads
+use Rattle.gray.proofs.all_two.Lts as lts
+
+abbrev Inv-loop : tie.InvT-loop
+Inv-loop radices ok₀ i₀ ok i = (i ≤ length radices) × (ok ≡ allFrom 2 (digits (take i radices)))
+
+abbrev μ-loop : tie.MeasureT-loop
+μ-loop radices ok₀ i₀ ok i = length radices - i
+
+loop-holds : tie.Need-loop-holds Inv-loop μ-loop
+unfolding allFrom
+loop-holds c = (omega arith, refl)
+
+shared-slice-read-ok : tie.Need-shared-slice-read-ok Inv-loop μ-loop
+shared-slice-read-ok c = omega arith
+
+add-i : tie.Need-add-i Inv-loop μ-loop
+add-i c = omega arith
+
+loop-less : tie.Need-loop-less Inv-loop μ-loop
+loop-less c = omega arith
+
+loop-again : tie.Need-loop-again Inv-loop μ-loop
+loop-again c =
+    (omega arith, tested-more 2 _ _ _ (c .before .loop-test .taken) (c .before .before .loop .inv .1))
+
+returns : tie.Need-returns Inv-loop μ-loop
+returns c = tested-all 2 _ _ _ (c .loop-test .left) (c .before .loop .inv .1)
+
+pub all-two-spec : {M : Type 1} → statement M
+all-two-spec = tie.close (tie.spec Inv-loop μ-loop loop-holds shared-slice-read-ok add-i loop-less loop-again returns)

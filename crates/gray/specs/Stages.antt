@@ -1,0 +1,36 @@
+-- What the stages of the calls answer: definitions that only this crate's private functions cite.
+use Prim.Native.Nat.{ℕ, _^_, _≤_}
+use mathlib.Core.Path.{_≡_}
+use mathlib.Core.Bool.{Bool, true, cond}
+use mathlib.Core.List.{List}
+use lib.Dec.{ltb}
+use lib.ListN.{length}
+use Rattle.gray.specs.Radices.{digits, size, allFrom}
+use Rattle.gray.specs.Words.{isWord}
+use Rattle.gray.specs.declared.Product.{Product}
+use Rattle.gray.specs.declared.Product.the-variants.{Within, Over}
+use Rattle.gray.specs.declared.Checked.{Checked}
+use Rattle.gray.specs.declared.Checked.the-variants.{Fine, Refused}
+
+-- a product that is within 2^62, or over it
+abbrev pub productAs : ℕ → Product
+productAs n = cond (ltb (2 ^ 62) n) Over (Within n)
+
+-- refusal 8 of a setting that is none
+abbrev pub checkedAs : Bool → Checked
+checkedAs isOne = cond isOne Fine (Refused 8)
+
+abbrev pub checkNumber : Checked → ℕ
+checkNumber Fine = 0
+checkNumber (Refused k) = k
+
+-- radices and a word that have passed every check
+pub record Rankable (radices word : List ℕ) : Type 0 where
+  pub one : isWord (digits radices) (digits word) ≡ true
+  pub two : allFrom 2 (digits radices) ≡ true
+  pub limit : size (digits radices) ≤ 2 ^ 62
+
+-- radices that have passed their checks, and an output that has room for a word
+pub record Room (radices out : List ℕ) : Type 0 where
+  pub two : allFrom 2 (digits radices) ≡ true
+  pub room : length radices ≤ length out

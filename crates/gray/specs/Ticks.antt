@@ -1,0 +1,28 @@
+-- What happens to the quotient and the remainder of a rank by a radix when the rank grows by one: the remainder grows, or it starts again and the quotient grows.
+use Prim.Native.Nat.{ℕ, suc, _+_, _*_, _/_, _%_, _<_}
+use native.Mathlib.Nat.{div-add-mod', mod-lt}
+use native.Mathlib.Decide.{decLt}
+use native.Mathlib.Omega.{arith}
+use mathlib.Core.Path.{_≡_, ap, _∙_}
+use lib.Arith.{digits-div, digits-mod}
+
+pub data Tick (m j : ℕ) : Type 0 where
+  moves : suc j / m ≡ j / m → suc j % m ≡ suc (j % m) → suc (j % m) < m → Tick m j
+  turns : suc j / m ≡ suc (j / m) → suc j % m ≡ 0 → suc (j % m) ≡ m → Tick m j
+
+pub tick : (m j : ℕ) → 0 < m → Tick m j
+tick m j pos =
+    let split = div-add-mod' j m in
+    let below : j % m < m = mod-lt j pos in
+    elim (decLt (suc (j % m)) m) [
+      | yes p ↦
+          let e : suc j ≡ j / m * m + suc (j % m) = omega arith in
+          moves (ap (λ (n : ℕ). n / m) e ∙ digits-div (j / m) p) (ap (λ (n : ℕ). n % m) e ∙ digits-mod (j / m) p) p
+      | no q ↦
+          let whole : suc (j % m) ≡ m = omega arith in
+          let e : suc j ≡ suc (j / m) * m + 0 = omega arith in
+          turns
+          (ap (λ (n : ℕ). n / m) e ∙ digits-div (suc (j / m)) pos)
+          (ap (λ (n : ℕ). n % m) e ∙ digits-mod (suc (j / m)) pos)
+          whole
+    ]

@@ -1,0 +1,253 @@
+// The reflected mixed-radix Gray code: sizes, ranks, words and move bytes.
+// Radices and words are lent bytes with digit n first; digit 1 is the fastest.
+
+ghost use mathlib.Core.Path.{_≡_};
+ghost use mathlib.Core.Bool.{true};
+ghost use Prim.Native.Nat.{_^_, _*_, _+_, _-_, _≤_, _<_};
+ghost use lib.ListN.{length, drop};
+ghost use mathlib.Core.List.{_++_};
+ghost use Rattle.gray.specs.Answers.{numberOf, Wrote};
+ghost use Rattle.gray.specs.Radices.{digits, bytes, size as sizeOf, allFrom};
+ghost use Rattle.gray.specs.Words.{reflect as reflected, isWord, rank as rankOf};
+ghost use Rattle.gray.specs.Members.{wordAt};
+ghost use Rattle.gray.specs.MoveBytes.{moveByte, moveDigit, moveDown};
+ghost use Rattle.gray.specs.Calls.{countedAs, rankedAs, writtenAs, sizeCall, rankCall, wordCall};
+ghost use Rattle.gray.specs.Stages.{productAs, checkedAs, checkNumber, Rankable, Room};
+
+// The number of words of a mixed-radix system.
+pub enum Counted {
+    Size(u64),
+    Refused(u8),
+}
+
+pub enum Ranked {
+    Rank(u64),
+    Refused(u8),
+}
+
+// What a writer answers: how many bytes it has written.
+pub enum Written {
+    Bytes(usize),
+    Refused(u8),
+}
+
+// A product of radices, within the limit of 2^62 or over it.
+pub enum Product {
+    Within(u64),
+    Over,
+}
+
+// Whether a setting passes its check.
+pub enum Checked {
+    Fine,
+    Refused(u8),
+}
+
+const LIMIT: u64 = 0x4000_0000_0000_0000;
+
+// Up to here any radix leaves the product within the limit, and the division is spared.
+const SMALL: u64 = 0x0040_0000_0000_0000;
+
+impl Counted {
+    // The refusal's number, for a caller to pass on; 0 where there is none.
+    pub fn number(self) -> u8
+        ensures { λ r. ⌜ r ≡ numberOf (countedAs self) ⌝ }
+    {
+        match self {
+            Counted::Size(_) => 0,
+            Counted::Refused(k) => k,
+        }
+    }
+}
+
+impl Checked {
+    fn number(self) -> u8
+        ensures { λ r. ⌜ r ≡ checkNumber self ⌝ }
+    {
+        match self {
+            Checked::Fine => 0,
+            Checked::Refused(k) => k,
+        }
+    }
+}
+
+fn wide(x: u8) -> u64
+    ensures { λ r. ⌜ (r ≡ x) × (r < 256) ⌝ }
+{
+    x as u64
+}
+
+fn all_two(radices: &[u8]) -> bool
+    ensures { λ r. ⌜ r ≡ allFrom 2 (digits (now (radices .entry))) ⌝ }
+{
+    let mut ok = true;
+    let mut i = 0;
+    while i < radices.len() {
+        ok = (2 <= radices[i]) & ok;
+        i += 1;
+    }
+    ok
+}
+
+fn times(p: u64, m: u64) -> Product
+    requires { ⌜ (p ≤ 2 ^ 62) × (0 < m) × (m < 256) ⌝ }
+    ensures { λ r. ⌜ r ≡ productAs (m * p) ⌝ }
+{
+    if p <= SMALL {
+        return Product::Within(m * p);
+    }
+    if LIMIT / m < p {
+        return Product::Over;
+    }
+    Product::Within(m * p)
+}
+
+fn product_of(radices: &[u8]) -> Product
+    requires { ⌜ allFrom 2 (digits (now radices)) ≡ true ⌝ }
+    ensures { λ r. ⌜ r ≡ productAs (sizeOf (digits (now (radices .entry)))) ⌝ }
+{
+    let mut p: u64 = 1;
+    let mut i = 0;
+    while i < radices.len() {
+        let next = times(p, wide(radices[i]));
+        let Product::Within(q) = next else {
+            return Product::Over;
+        };
+        p = q;
+        i += 1;
+    }
+    Product::Within(p)
+}
+
+pub fn size(radices: &[u8]) -> Counted
+    ensures { λ r. ⌜ countedAs r ≡ sizeCall (now (radices .entry)) ⌝ }
+{
+    let n = radices.len();
+    if (n == 0) | (48 < n) {
+        return Counted::Refused(2);
+    }
+    if !all_two(radices) {
+        return Counted::Refused(3);
+    }
+    let whole = product_of(radices);
+    let Product::Within(total) = whole else {
+        return Counted::Refused(4);
+    };
+    Counted::Size(total)
+}
+
+// Document 01's b: a digit as it is after a rank that is even, from the other end after one that is odd.
+fn reflect(m: u64, p: u64, a: u64) -> u64
+    requires { ⌜ a < m ⌝ }
+    ensures { λ r. ⌜ r ≡ reflected m p a ⌝ }
+{
+    if p % 2 == 0 { a } else { m - 1 - a }
+}
+
+fn all_below(radices: &[u8], word: &[u8]) -> bool
+    requires { ⌜ length (now word) ≡ length (now radices) ⌝ }
+    ensures { λ r. ⌜ r ≡ isWord (digits (now (radices .entry))) (digits (now (word .entry))) ⌝ }
+{
+    let mut ok = true;
+    let mut i = 0;
+    while i < radices.len() {
+        ok = (word[i] < radices[i]) & ok;
+        i += 1;
+    }
+    ok
+}
+
+// Refusal 8 of a setting.
+fn check_word(radices: &[u8], word: &[u8]) -> Checked
+    ensures { λ r. ⌜ r ≡ checkedAs (isWord (digits (now (radices .entry))) (digits (now (word .entry)))) ⌝ }
+{
+    if word.len() != radices.len() {
+        return Checked::Refused(8);
+    }
+    if all_below(radices, word) {
+        Checked::Fine
+    } else {
+        Checked::Refused(8)
+    }
+}
+
+fn rank_from(radices: &[u8], word: &[u8]) -> u64
+    requires { ⌜ Rankable (now radices) (now word) ⌝ }
+    ensures { λ r. ⌜ r ≡ rankOf (digits (now (radices .entry))) (digits (now (word .entry))) ⌝ }
+{
+    let mut p: u64 = 0;
+    let mut i = 0;
+    while i < radices.len() {
+        let m = wide(radices[i]);
+        let b = reflect(m, p, wide(word[i]));
+        p = p * m + b;
+        i += 1;
+    }
+    p
+}
+
+pub fn rank(radices: &[u8], word: &[u8]) -> Ranked
+    ensures { λ r. ⌜ rankedAs r ≡ rankCall (now (radices .entry)) (now (word .entry)) ⌝ }
+{
+    let counted = size(radices);
+    let Counted::Size(_) = counted else {
+        return Ranked::Refused(counted.number());
+    };
+    let tested = check_word(radices, word);
+    let Checked::Fine = tested else {
+        return Ranked::Refused(tested.number());
+    };
+    Ranked::Rank(rank_from(radices, word))
+}
+
+// The digits from the fastest on: each is a remainder, and the quotient is the rank of the slower ones.
+fn put_word(radices: &[u8], rank: u64, out: &mut [u8])
+    requires { ⌜ Room (now radices) (now out) ⌝ }
+    ensures { λ _. ⌜ now (out .exit) ≡ bytes (wordAt (digits (now (radices .entry))) rank) ++ drop (length (now (radices .entry))) (now (out .entry)) ⌝ }
+{
+    let mut q = rank;
+    let mut i = radices.len();
+    while 0 < i {
+        i -= 1;
+        let m = wide(radices[i]);
+        let b = q % m;
+        q = q / m;
+        out[i] = reflect(m, q, b) as u8;
+    }
+}
+
+pub fn word(radices: &[u8], rank: u64, out: &mut [u8]) -> Written
+    ensures { λ r. ⌜ Wrote (wordCall (now (radices .entry)) rank) (writtenAs r) (now (out .entry)) (now (out .exit)) ⌝ }
+{
+    let counted = size(radices);
+    let Counted::Size(n) = counted else {
+        return Written::Refused(counted.number());
+    };
+    if n <= rank {
+        return Written::Refused(8);
+    }
+    if out.len() < radices.len() {
+        return Written::Refused(9);
+    }
+    put_word(radices, rank, out);
+    Written::Bytes(radices.len())
+}
+
+// A move as a byte: the digit in the low seven bits, the top bit set for down.
+pub fn move_byte(digit: u8, down: bool) -> u8
+    ensures { λ r. ⌜ r ≡ moveByte digit down ⌝ }
+{
+    (digit & 127) | ((down as u8) << 7)
+}
+
+pub fn move_digit(byte: u8) -> u8
+    ensures { λ r. ⌜ r ≡ moveDigit byte ⌝ }
+{
+    byte & 127
+}
+
+pub fn move_down(byte: u8) -> bool
+    ensures { λ r. ⌜ r ≡ moveDown byte ⌝ }
+{
+    byte >> 7 == 1
+}
