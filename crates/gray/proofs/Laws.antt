@@ -4,8 +4,8 @@ use native.Mathlib.Nat.{mul-le-mul, div-lt-iff-lt-mul, le-div-iff-mul-le, mul-co
 use native.Mathlib.Decide.{decLe}
 use native.Mathlib.Omega.{arith}
 use mathlib.Core.Path.{_≡_, refl, sym, ap, ap₂, _∙_}
-use mathlib.Core.Bool.{Bool, true, false, cond, not, _&&_, _||_}
-use mathlib.Core.List.{List, [], _∷_, _++_, reverse-cons}
+use mathlib.Core.Bool.{Bool, true, false, _&&_, _||_}
+use mathlib.Core.List.{List, _∷_, _++_, reverse-cons}
 use borrow.Author.Tests.{eq-eqb, ne-eqb, lt-ltb, le-ltb, le-leb, lt-leb, ltb-true, ltb-false}
 use lib.Bits.{bitAnd, bitOr, and-mask, or-shifted-r, or-zero-r}
 use lib.Dec.{eqb, leb, ltb}
@@ -13,20 +13,19 @@ use lib.ListN.{length, getD, set, take, drop, length-reverse}
 use lib.Seq.{drop-cons, lt-length-set, getD-set-same, drop-set-lt, append-snoc}
 use mir.Val.{boolByte}
 use Rattle.gray.specs.MoveBytes.{moveByte, moveDigit, moveDown}
-use Rattle.gray.specs.Answers.{Answer, given, refused}
+use Rattle.gray.specs.Answers.{given, refused}
 use Rattle.gray.specs.Radices.{digits, bytes, size, allFrom, wrongCount}
 use Rattle.gray.specs.Calls.{sizeCall, rankCall, wordCall}
 use Rattle.gray.specs.Refusals.{accepted, radices-accepted}
 use Rattle.gray.specs.Stages.{productAs, checkedAs, checkNumber}
 use Rattle.gray.specs.declared.Checked.{Checked}
 use Rattle.gray.specs.declared.Checked.the-variants.{Fine, Refused as CheckRefused}
-use Rattle.gray.specs.declared.Product.{Product}
 use Rattle.gray.specs.declared.Product.the-variants.{Within, Over}
 use Rattle.gray.specs.Words.{isWord, reflect, rank, member}
-use Rattle.gray.specs.Members.{wordAt, member-is-wordAt}
-use Rattle.gray.specs.Rulers.{length-wordAt}
+use Rattle.gray.specs.Members.{wordAt, member-is-wordAt, length-wordAt}
 use Rattle.gray.specs.Ranks.{rank-below}
-use Rattle.gray.specs.Digits.{digits-more, taken, allFrom-weaker, size-taken, isWord-taken, word-long}
+use Rattle.gray.specs.Digits.{digits-more, taken, size-taken, isWord-taken, word-long}
+use Rattle.gray.specs.Sizes.{allFrom-weaker}
 
 -- ---- all_two
 pub tested-more : (k : ℕ) (l : List ℕ) (i : ℕ) (ok : Bool) → i < length l → ok ≡ allFrom k (digits (take i l)) → leb k (getD l i 0) && ok ≡ allFrom k (digits (take (i + 1) l))
@@ -43,14 +42,14 @@ within n h = rw (le-ltb (2 ^ 62) n h)
 pub over : (n : ℕ) → 2 ^ 62 < n → Over ≡ productAs n
 over n h = rw (lt-ltb (2 ^ 62) n h)
 
-pub within-says : (n q : ℕ) → productAs n ≡ Within q → (q ≡ n) × (q ≤ 2 ^ 62)
+within-says : (n q : ℕ) → productAs n ≡ Within q → (q ≡ n) × (q ≤ 2 ^ 62)
 within-says n q e = go (ltb (2 ^ 62) n) refl
   where
     go : (b : Bool) → ltb (2 ^ 62) n ≡ b → (q ≡ n) × (q ≤ 2 ^ 62)
     go true t = let z : _≡_ {A = ℕ} 0 1 = cc in absurd (omega arith)
     go false t = let same : q ≡ n = cc in let small = ltb-false (2 ^ 62) n t in (same, omega arith)
 
-pub over-says : (n : ℕ) → productAs n ≡ Over → 2 ^ 62 < n
+over-says : (n : ℕ) → productAs n ≡ Over → 2 ^ 62 < n
 over-says n e = go (ltb (2 ^ 62) n) refl
   where
     go : (b : Bool) → ltb (2 ^ 62) n ≡ b → 2 ^ 62 < n
@@ -69,9 +68,14 @@ pub divided-within : (m p : ℕ) → 0 < m → p ≤ 2 ^ 62 / m → m * p ≤ 2 
 divided-within m p pos h = rw (mul-comm m p) (le-div-iff-mul-le pos .0 h)
 
 -- ---- product_of
-pub size-more : (l : List ℕ) (i m p : ℕ) → i < length l → m ≡ getD l i 0 → p ≡ size (digits (take i l)) → m * p ≡ size (digits (take (i + 1) l))
+size-more : (l : List ℕ) (i m p : ℕ) → i < length l → m ≡ getD l i 0 → p ≡ size (digits (take i l)) → m * p ≡ size (digits (take (i + 1) l))
 unfolding size
 size-more l i m p h e f = rw (digits-more l i h, e, f)
+
+pub product-more : (l : List ℕ) (i m p q : ℕ) → i < length l → m ≡ getD l i 0 → p ≡ size (digits (take i l)) → productAs (m * p) ≡ Within q → (q ≡ size (digits (take (i + 1) l))) × (q ≤ 2 ^ 62)
+product-more l i m p q h e f w =
+    let said = within-says (m * p) q w in
+    (said .0 ∙ size-more l i m p h e f, said .1)
 
 pub product-over : (l : List ℕ) (i m p : ℕ) → allFrom 2 (digits l) ≡ true → i < length l → m ≡ getD l i 0 → p ≡ size (digits (take i l)) → productAs (m * p) ≡ Over → Over ≡ productAs (size (digits l))
 product-over l i m p two h e f o =

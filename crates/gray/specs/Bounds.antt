@@ -1,11 +1,10 @@
 -- Bounds on the cost of entries: each costs what the ruler function says, entry j less than 2 j in all, and a run of d entries at most 2 d + n − 1.
 use Prim.Native.Nat.{ℕ, zero, suc, _+_, _-_, _*_, _/_, _%_, _≤_, _<_}
 use native.Mathlib.Nat.{div-div-eq-div-mul, div-one, div-add-mod', mod-lt, mul-le-mul-left, zero-div, eq-zero-or-pos, add-zero, le-div-iff-mul-le}
-use native.Mathlib.Decide.{decLt}
 use native.Mathlib.Omega.{arith}
 use mathlib.Core.Path.{_≡_, refl, sym, ap, _∙_}
-use mathlib.Core.Logic.{_⊎_, ⊎-elim}
-use mathlib.Core.Bool.{true, _&&_}
+use mathlib.Core.Logic.{⊎-elim}
+use mathlib.Core.Bool.{true}
 use mathlib.Core.List.{List, [], _∷_}
 use borrow.Author.Tests.{leb-true}
 use lib.Dec.{leb}
@@ -13,7 +12,7 @@ use lib.ListN.{length}
 use Rattle.gray.specs.Radices.{allFrom}
 use Rattle.gray.specs.Changes.{ruler}
 use Rattle.gray.specs.Costs.{wholeParts, cost}
-use Rattle.gray.specs.Ranks.{both}
+use Rattle.gray.specs.Bools.{both}
 use Rattle.gray.specs.Rulers.{ruler-turns, ruler-moves}
 use Rattle.gray.specs.Ticks.{Tick, Tick.moves, Tick.turns, tick}
 
@@ -56,8 +55,8 @@ nested-suc (m ∷ ms) e j =
     let (first, others) = both (leb 1 m) (allFrom 1 ms) e in
     tick-costs m ms j (tick m j (leb-true 1 m first)) (nested-suc ms others (j / m))
 
-pub cost-suc : (ms : List ℕ) → allFrom 1 ms ≡ true → (j : ℕ) → cost ms (suc j) ≡ cost ms j + ruler ms (suc j)
-cost-suc ms e j = rw (cost-is-nested ms (suc j), cost-is-nested ms j) (nested-suc ms e j)
+pub entry-costs-ruler : (ms : List ℕ) → allFrom 1 ms ≡ true → (j : ℕ) → cost ms (suc j) ≡ cost ms j + ruler ms (suc j)
+entry-costs-ruler ms e j = rw (cost-is-nested ms (suc j), cost-is-nested ms j) (nested-suc ms e j)
 
 -- ---- less than two steps an entry
 nested-zero : (ms : List ℕ) → nested ms 0 ≡ 0
@@ -80,8 +79,8 @@ nested-double (m ∷ ms) e j pos =
     (λ p. let ih = nested-double ms others (j / m) p in omega arith)
     (eq-zero-or-pos (j / m))
 
-pub cost-double : (ms : List ℕ) → allFrom 2 ms ≡ true → (j : ℕ) → 0 < j → cost ms j < 2 * j
-cost-double ms e j pos = rw (cost-is-nested ms j) (nested-double ms e j pos)
+pub cost-below-double : (ms : List ℕ) → allFrom 2 ms ≡ true → (j : ℕ) → 0 < j → cost ms j < 2 * j
+cost-below-double ms e j pos = rw (cost-is-nested ms j) (nested-double ms e j pos)
 
 -- ---- a burst: d entries in a row, wherever they start
 growth : (j d m f : ℕ) → 2 ≤ m → (j + d) / m ≡ j / m + suc f → 2 * suc f ≤ d + 1

@@ -1,8 +1,8 @@
 -- What the calls of this crate answer, in document 01's terms: the refusals in their order, and then the value. Radices and words are lent bytes, digit n first.
-use Prim.Native.Nat.{ℕ, _^_}
-use mathlib.Core.Bool.{not, cond}
+use Prim.Native.Nat.{ℕ}
+use mathlib.Core.Bool.{not}
 use mathlib.Core.List.{List}
-use lib.Dec.{leb, ltb}
+use lib.Dec.{leb}
 use Rattle.gray.specs.Answers.{Answer, given, refused, refusing, fitting}
 use Rattle.gray.specs.Radices.{digits, bytes, size, ofRadices}
 use Rattle.gray.specs.Words.{member, isWord, rank}

@@ -1,11 +1,13 @@
 -- The changes from each setting of the list to the next, and the ruler function that names their digits (document 004, section 10.3).
-use Prim.Native.Nat.{ℕ, suc, _-_, _/_, _%_}
+use Prim.Native.Nat.{ℕ, suc, _-_, _/_, _%_, _<_}
 use mathlib.Core.Bool.{Bool, true, false, cond, not}
 use mathlib.Core.List.{List, [], _∷_}
 use lib.Dec.{eqb, ltb}
-use lib.ListN.{take}
+use lib.ListN.{take, length, getD}
 use Rattle.gray.specs.Radices.{size}
 use Rattle.gray.specs.Words.{even, member}
+use mathlib.Core.Path.{_≡_}
+use mathlib.Core.Logic.{_⊎_}
 
 -- a move of one digit by one notch: the digit's number, from 1, and whether it goes down
 pub record Change : Type 0 where
@@ -15,10 +17,10 @@ pub record Change : Type 0 where
 abbrev pub later : Change → Change
 later c = record { digit = suc (c .digit); down = c .down }
 
--- where two words differ: the digit, and down unless it grows. Words that do not differ have no such digit: 0
+-- where two words differ: the digit, and down unless it grows. For words that do not differ the digit is n + 1, no digit's number
 unfoldable pub difference : List ℕ → List ℕ → Change
-difference [] v = record { digit = 0; down = false }
-difference (a ∷ u) [] = record { digit = 0; down = false }
+difference [] v = record { digit = 1; down = false }
+difference (a ∷ u) [] = record { digit = 1; down = false }
 difference (a ∷ u) (b ∷ v) = cond (eqb a b) (later (difference u v)) (record { digit = 1; down = ltb b a })
 
 -- change j: how the settings of ranks j − 1 and j differ
@@ -30,6 +32,13 @@ pub data Moves : ℕ → Bool → List ℕ → List ℕ → Type 0 where
   up : {a : ℕ} {w : List ℕ} → Moves 1 false (a ∷ w) (suc a ∷ w)
   down : {a : ℕ} {w : List ℕ} → Moves 1 true (suc a ∷ w) (a ∷ w)
   next : {k a : ℕ} {d : Bool} {u v : List ℕ} → Moves k d u v → Moves (suc k) d (a ∷ u) (a ∷ v)
+
+-- two words that are apart by one notch at index i, in digit i + 1, and nowhere else
+pub record OneApart (i : ℕ) (u v : List ℕ) : Type 0 where
+  pub within : i < length u
+  pub long : length v ≡ length u
+  pub by-one : (getD v i 0 ≡ suc (getD u i 0)) ⊎ (getD u i 0 ≡ suc (getD v i 0))
+  pub others : (o : ℕ) → (o ≡ i → ⊥) → getD v o 0 ≡ getD u o 0
 
 -- the ruler function: one more than how many of m_1, m_1 m_2, .. divide j
 unfoldable pub ruler : List ℕ → ℕ → ℕ

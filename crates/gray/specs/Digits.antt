@@ -1,19 +1,19 @@
 -- Laws for loops over lent bytes: what the first i bytes, the slowest i digits, say of the digits.
-use Prim.Native.Nat.{ℕ, zero, suc, _+_, _-_, _*_, _≤_, _<_}
-use native.Mathlib.Nat.{mul-assoc, one-mul, le-mul-of-pos-right, mul-comm}
+use Prim.Native.Nat.{ℕ, suc, _+_, _-_, _*_, _≤_, _<_}
+use native.Mathlib.Nat.{le-mul-of-pos-right, mul-comm}
 use native.Mathlib.Numerals.{add-one}
 use native.Mathlib.Omega.{arith}
 use mathlib.Core.Path.{_≡_, refl, sym, ap, ap₂, _∙_}
-use mathlib.Core.Bool.{Bool, true, false, _&&_}
+use mathlib.Core.Bool.{true, _&&_}
 use mathlib.Core.List.{List, [], _∷_, _++_, reverse-append}
-use borrow.Author.Tests.{leb-true, le-leb, ltb-true}
+use borrow.Author.Tests.{leb-true, ltb-true}
 use lib.Dec.{leb, ltb}
 use lib.ListN.{length, getD, take, drop, take-append-drop, length-drop, length-reverse}
 use lib.Seq.{take-suc, take-all}
 use Rattle.gray.specs.Radices.{digits, size, allFrom}
 use Rattle.gray.specs.Words.{isWord}
-use Rattle.gray.specs.Ranks.{both}
-use Rattle.gray.specs.Rulers.{size-pos}
+use Rattle.gray.specs.Bools.{both, and-assoc}
+use Rattle.gray.specs.Sizes.{size-pos, allFrom-append, size-append}
 
 -- ---- the digits of a part
 -- one byte more is one faster digit
@@ -28,20 +28,6 @@ pub taken : (l : List ℕ) (i : ℕ) → length l ≤ i → take i l ≡ l
 taken l i h = take-all i l h
 
 -- ---- lists one after another
-pub and-assoc : (a b c : Bool) → a && b && c ≡ a && (b && c)
-and-assoc true b c = refl
-and-assoc false b c = refl
-
-pub allFrom-append : (k : ℕ) (a b : List ℕ) → allFrom k (a ++ b) ≡ allFrom k a && allFrom k b
-unfolding allFrom
-allFrom-append k [] b = refl
-allFrom-append k (m ∷ a) b = ap (λ t. leb k m && t) (allFrom-append k a b) ∙ sym (and-assoc (leb k m) (allFrom k a) (allFrom k b))
-
-pub size-append : (a b : List ℕ) → size (a ++ b) ≡ size a * size b
-unfolding size
-size-append [] b = sym (one-mul (size b))
-size-append (m ∷ a) b = ap (λ n. m * n) (size-append a b) ∙ sym (mul-assoc m (size a) (size b))
-
 pub isWord-append : (a u b v : List ℕ) → length a ≡ length u → isWord (a ++ b) (u ++ v) ≡ isWord a u && isWord b v
 unfolding isWord
 isWord-append [] [] b v e = refl
@@ -58,14 +44,6 @@ isWord-length (m ∷ ms) [] e = let z : _≡_ {A = ℕ} 0 1 = cc in absurd (omeg
 isWord-length (m ∷ ms) (a ∷ w) e = ap suc (isWord-length ms w (both (ltb a m) (isWord ms w) e .1))
 
 -- ---- the slowest i digits
-pub allFrom-weaker : (k j : ℕ) (ms : List ℕ) → j ≤ k → allFrom k ms ≡ true → allFrom j ms ≡ true
-unfolding allFrom
-allFrom-weaker k j [] h e = refl
-allFrom-weaker k j (m ∷ ms) h e =
-    let (first, others) = both (leb k m) (allFrom k ms) e in
-    let b : k ≤ m = leb-true k m first in
-    rw (le-leb j m (omega arith)) (allFrom-weaker k j ms h others)
-
 -- every radix is at least k: those of the first i bytes, those of the rest, and each
 pub allFrom-parts : (k : ℕ) (l : List ℕ) (i : ℕ) → allFrom k (digits l) ≡ true → (allFrom k (digits (drop i l)) ≡ true) × (allFrom k (digits (take i l)) ≡ true)
 allFrom-parts k l i e =

@@ -1,4 +1,6 @@
--- The reflected mixed-radix Gray code: document 01's definitions (Answers, Radices, Words, Changes, Costs, MoveBytes, Calls) and the theorems about them.
+-- The reflected mixed-radix Gray code. Read the definitions first: they transcribe document 01. The theorems say what the definitions have to do with each other, and the laws are what proofs cite.
+
+-- definitions
 pub mod Answers
 pub mod Radices
 pub mod Words
@@ -6,11 +8,16 @@ pub mod Changes
 pub mod Costs
 pub mod MoveBytes
 pub mod Calls
-pub mod Stages
+-- theorems
 pub mod Members
 pub mod Ranks
-pub mod Ticks
 pub mod Rulers
 pub mod Bounds
+pub mod Moves
+-- laws
+pub mod Bools
+pub mod Sizes
+pub mod Ticks
 pub mod Digits
 pub mod Refusals
+pub mod Stages

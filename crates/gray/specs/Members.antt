@@ -1,21 +1,27 @@
 -- The list in index form: it has N members, and the member of rank r is `wordAt r`, which divides r by one radix after another.
-use Prim.Native.Nat.{ℕ, zero, suc, _+_, _-_, _*_, _/_, _%_, _≤_, _<_}
-use native.Mathlib.Nat.{div-eq-of-lt, mod-eq-of-lt, add-div-left, add-mod-left, div-lt-iff-lt-mul, mul-comm, add-zero, zero-add}
+use Prim.Native.Nat.{ℕ, zero, suc, _+_, _-_, _*_, _/_, _%_, _<_}
+use native.Mathlib.Nat.{div-eq-of-lt, mod-eq-of-lt, add-div-left, add-mod-left, mul-comm, add-zero, zero-add}
 use native.Mathlib.Numerals.{add-one}
 use native.Mathlib.Decide.{decLt}
 use native.Mathlib.Omega.{arith}
-use mathlib.Core.Path.{_≡_, refl, sym, ap, _∙_}
+use mathlib.Core.Path.{_≡_, refl, ap, _∙_}
 use mathlib.Core.Bool.{Bool, true, false, cond}
 use mathlib.Core.List.{List, [], _∷_, _++_, map}
 use lib.ListN.{length, getD, length-append, length-map, List·getD-append}
 use lib.Seq.{getD-at, getD-append-add}
-use Rattle.gray.specs.Radices.{size, allFrom}
+use Rattle.gray.specs.Radices.{size}
 use Rattle.gray.specs.Words.{even, upward, downward, through, list, member, reflect}
+use Rattle.gray.specs.Sizes.{pos-of-lt-mul, quotient-below}
 
 -- digit 1 of the word of rank r, and then the word of rank r / m of the slower digits
 unfoldable pub wordAt : List ℕ → ℕ → List ℕ
 wordAt [] r = []
 wordAt (m ∷ ms) r = reflect m (r / m) (r % m) ∷ wordAt ms (r / m)
+
+pub length-wordAt : (ms : List ℕ) (r : ℕ) → length (wordAt ms r) ≡ length ms
+unfolding wordAt
+length-wordAt [] r = refl
+length-wordAt (m ∷ ms) r = ap suc (length-wordAt ms (r / m))
 
 -- ---- one digit's notches, up or down
 length-upward : (m : ℕ) → length (upward m) ≡ m
@@ -55,11 +61,6 @@ getD-map : {A B : Type 0} (f : A → B) (l : List A) (i : ℕ) (d : A) (e : B) �
 getD-map f [] i d e h = absurd (omega arith)
 getD-map f (x ∷ l) zero d e h = refl
 getD-map f (x ∷ l) (suc i) d e h = getD-map f l i d e (omega arith)
-
--- a factor of a product that is above something is not 0
-pub pos-of-lt-mul : (i n m : ℕ) → i < n * m → 0 < m
-pos-of-lt-mul i n zero h = absurd (omega arith)
-pos-of-lt-mul i n (suc m) h = omega arith
 
 -- ---- the list through one more digit
 block : ℕ → ℕ → List ℕ → List (List ℕ)
@@ -118,17 +119,10 @@ getD-through m r (c ∷ cs) i h =
 
 -- ---- the list
 -- the list has N members
-pub length-list : (ms : List ℕ) → length (list ms) ≡ size ms
+pub list-has-size : (ms : List ℕ) → length (list ms) ≡ size ms
 unfolding list size
-length-list [] = refl
-length-list (m ∷ ms) = length-through m 0 (list ms) ∙ ap (λ (n : ℕ). n * m) (length-list ms) ∙ mul-comm (size ms) m
-
--- the quotient of a rank is a rank of the slower digits
-pub quotient-below : (m : ℕ) (ms : List ℕ) (r : ℕ) → r < size (m ∷ ms) → r / m < size ms
-unfolding size
-quotient-below m ms r h =
-    let f : r < size ms * m = omega (arith, mul-comm m (size ms)) in
-    div-lt-iff-lt-mul (pos-of-lt-mul r (size ms) m f) .1 f
+list-has-size [] = refl
+list-has-size (m ∷ ms) = length-through m 0 (list ms) ∙ ap (λ (n : ℕ). n * m) (list-has-size ms) ∙ mul-comm (size ms) m
 
 -- the member of rank r is the word that dividing r by the radices gives
 pub member-is-wordAt : (ms : List ℕ) (r : ℕ) → r < size ms → member ms r ≡ wordAt ms r
@@ -136,6 +130,6 @@ unfolding list size wordAt
 member-is-wordAt [] zero h = refl
 member-is-wordAt [] (suc r) h = absurd (omega arith)
 member-is-wordAt (m ∷ ms) r h =
-    getD-through m 0 (list ms) r (let l = length-list ms in let c = mul-comm m (size ms) in rw l (rw (← c) h))
+    getD-through m 0 (list ms) r (let l = list-has-size ms in let c = mul-comm m (size ms) in rw l (rw (← c) h))
     ∙ ap (λ (p : ℕ). reflect m p (r % m) ∷ member ms (r / m)) (zero-add (r / m))
     ∙ ap (λ (w : List ℕ). reflect m (r / m) (r % m) ∷ w) (member-is-wordAt ms (r / m) (quotient-below m ms r h))

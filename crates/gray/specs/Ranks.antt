@@ -1,20 +1,18 @@
 -- The rank of a word is its place in the list, and the list holds every word exactly once.
-use Prim.Native.Nat.{ℕ, zero, suc, _+_, _-_, _*_, _/_, _%_, _<_}
+use Prim.Native.Nat.{ℕ, _+_, _-_, _*_, _/_, _%_, _<_}
 use native.Mathlib.Nat.{div-add-mod', mod-lt, mul-comm}
 use native.Mathlib.Omega.{arith}
 use mathlib.Core.Path.{_≡_, refl, sym, ap, _∙_}
-use mathlib.Core.Bool.{Bool, true, false, cond, _&&_}
+use mathlib.Core.Bool.{Bool, true, false, cond}
 use mathlib.Core.List.{List, [], _∷_}
 use borrow.Author.Tests.{ltb-true, lt-ltb}
 use lib.Arith.{digits-lt, digits-div, digits-mod}
 use lib.Dec.{ltb}
 use Rattle.gray.specs.Radices.{size}
 use Rattle.gray.specs.Words.{even, member, isWord, reflect, rank}
-use Rattle.gray.specs.Members.{wordAt, member-is-wordAt, pos-of-lt-mul, quotient-below}
-
-pub both : (a b : Bool) → a && b ≡ true → (a ≡ true) × (b ≡ true)
-both true b e = (refl, e)
-both false b e = let z : _≡_ {A = ℕ} 0 1 = cc in absurd (omega arith)
+use Rattle.gray.specs.Members.{wordAt, member-is-wordAt}
+use Rattle.gray.specs.Sizes.{quotient-below, first-pos}
+use Rattle.gray.specs.Bools.{both}
 
 -- ---- one digit: to reflect is to keep it below its radix, and twice is to leave it
 cond-below : (m a : ℕ) (b : Bool) → a < m → cond b a (m - 1 - a) < m
@@ -30,11 +28,6 @@ cond-twice m a false h = omega arith
 
 pub reflect-twice : (m p a : ℕ) → a < m → reflect m p (reflect m p a) ≡ a
 reflect-twice m p a h = cond-twice m a (even p) h
-
--- the first radix of a system with a word, or a rank, is not 0
-pub first-pos : (m : ℕ) (ms : List ℕ) (r : ℕ) → r < size (m ∷ ms) → 0 < m
-unfolding size
-first-pos m ms r h = pos-of-lt-mul r (size ms) m (omega (arith, mul-comm m (size ms)))
 
 -- ---- the index form
 pub rank-of-wordAt : (ms : List ℕ) (r : ℕ) → r < size ms → rank ms (wordAt ms r) ≡ r

@@ -2,7 +2,7 @@
 use Prim.Native.Nat.{ℕ, _^_, _≤_, _<_}
 use native.Mathlib.Omega.{arith}
 use mathlib.Core.Path.{_≡_, refl, sym, ap, _∙_}
-use mathlib.Core.Bool.{Bool, true, false, not, _||_}
+use mathlib.Core.Bool.{Bool, true, false}
 use mathlib.Core.List.{List, _++_}
 use borrow.Author.Tests.{eqb-false, ltb-false, not-false}
 use lib.Dec.{eqb, ltb}
@@ -12,6 +12,7 @@ use Rattle.gray.specs.Radices.{digits, size, allFrom, wrongCount, wrongR
 use Rattle.gray.specs.Calls.{countedAs, sizeCall}
 use Rattle.gray.specs.declared.Counted.{Counted}
 use Rattle.gray.specs.declared.Counted.the-variants.{Refused}
+use Rattle.gray.specs.Bools.{neither}
 
 -- ---- three checks in a row, whatever comes after them
 abbrev checks : {A : Type 0} → Bool → Bool → Bool → Answer A → Answer A
@@ -28,10 +29,6 @@ passes true b c n k e = let z : _≡_ {A = ℕ} 0 1 = cc in absurd (omega arith)
 passes false true c n k e = let z : _≡_ {A = ℕ} 0 1 = cc in absurd (omega arith)
 passes false false true n k e = let z : _≡_ {A = ℕ} 0 1 = cc in absurd (omega arith)
 passes false false false n k e = (refl, refl, refl, cc)
-
-neither : (a b : Bool) → (a || b) ≡ false → (a ≡ false) × (b ≡ false)
-neither true b e = let z : _≡_ {A = ℕ} 0 1 = cc in absurd (omega arith)
-neither false b e = (refl, e)
 
 -- ---- radices that are refused, and radices that are accepted
 pub radices-refused : {A : Type 0} (l : List ℕ) (k : ℕ) (rest : Answer A) → sizeCall l ≡ refused k → ofRadices (digits l) rest ≡ refused k

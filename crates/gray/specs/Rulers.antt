@@ -1,22 +1,23 @@
 -- The ruler function names the digit of each change: members j and j + 1 differ in digit ruler (j + 1) alone, by one notch.
 use Prim.Native.Nat.{ℕ, zero, suc, _+_, _-_, _*_, _/_, _%_, _≤_, _<_}
-use native.Mathlib.Nat.{div-div-eq-div-mul, mod-one, mul-comm, mul-one, mul-pos, le-mul-of-pos-right, mul-mod-right, mul-div-cancel-left}
+use native.Mathlib.Nat.{div-div-eq-div-mul, mod-one, mul-comm, mul-one, le-mul-of-pos-right, mul-mod-right, mul-div-cancel-left}
 use native.Mathlib.Decide.{ℕ-discrete}
 use native.Mathlib.Omega.{arith}
-use mathlib.Core.Path.{_≡_, refl, sym, ap, _∙_, subst}
-use mathlib.Core.Logic.{_↔_}
-use mathlib.Core.Bool.{Bool, true, false, cond, not, _&&_}
+use mathlib.Core.Path.{_≡_, refl, ap, _∙_}
+use mathlib.Core.Logic.{_↔_, inl, inr}
+use mathlib.Core.Bool.{Bool, true, false, cond, not}
 use mathlib.Core.List.{List, [], _∷_}
 use borrow.Author.Tests.{eq-eqb, ne-eqb, lt-ltb, le-ltb, leb-true}
 use lib.Arith.{mod-mul}
-use lib.Dec.{eqb, leb}
-use lib.ListN.{length, take}
+use lib.Dec.{leb}
+use lib.ListN.{length, take, getD}
 use Rattle.gray.specs.Radices.{size, allFrom}
 use Rattle.gray.specs.Words.{even, member, reflect}
-use Rattle.gray.specs.Changes.{Change, later, difference, change, Moves, Moves.up, Moves.down, Moves.next, ruler, descends}
-use Rattle.gray.specs.Members.{wordAt, member-is-wordAt, quotient-below}
-use Rattle.gray.specs.Ranks.{both, first-pos}
-use Rattle.gray.specs.Ticks.{Tick, Tick.moves, Tick.turns, tick}
+use Rattle.gray.specs.Changes.{later, difference, change, Moves, Moves.up, Moves.down, Moves.next, ruler, descends, OneApart}
+use Rattle.gray.specs.Members.{wordAt, member-is-wordAt, length-wordAt}
+use Rattle.gray.specs.Sizes.{quotient-below, first-pos, size-pos, allFrom-take}
+use Rattle.gray.specs.Bools.{both}
+use Rattle.gray.specs.Ticks.{Tick, Tick.moves, Tick.turns, tick, even-suc}
 
 -- ---- the ruler function and the direction, by the first radix
 pub ruler-turns : (m : ℕ) (ms : List ℕ) (j : ℕ) → j % m ≡ 0 → ruler (m ∷ ms) j ≡ suc (ruler ms (j / m))
@@ -43,13 +44,6 @@ descends-moves m ms j b e =
 one-digit : (m b : ℕ) (w : List ℕ) (e : Bool) → suc b < m → Moves 1 (not e) (cond e b (m - 1 - b) ∷ w) (cond e (suc b) (m - 1 - suc b) ∷ w)
 one-digit m b w true h = up
 one-digit m b w false h = let e : m - 1 - b ≡ suc (m - 1 - suc b) = omega arith in rw e down
-
-pub even-suc : (q : ℕ) → even (suc q) ≡ not (even q)
-even-suc q =
-    elim (ℕ-discrete (q % 2) 0) [
-      | yes p ↦ rw (eq-eqb (q % 2) 0 p) (ne-eqb (suc q % 2) 0 (λ z. omega arith))
-      | no h ↦ rw (ne-eqb (q % 2) 0 h) (eq-eqb (suc q % 2) 0 (omega arith))
-    ]
 
 -- a digit that has come to its end stands still while the next one moves: it is m − 1 or 0 on both sides
 at-rest : (m b : ℕ) (e : Bool) → suc b ≡ m → cond e b (m - 1 - b) ≡ cond (not e) 0 (m - 1 - 0)
@@ -89,11 +83,6 @@ moves-within (up {a} {w}) = omega arith
 moves-within (down {a} {w}) = omega arith
 moves-within (next p) = let h = moves-within p in omega arith
 
-pub length-wordAt : (ms : List ℕ) (r : ℕ) → length (wordAt ms r) ≡ length ms
-unfolding wordAt
-length-wordAt [] r = refl
-length-wordAt (m ∷ ms) r = ap suc (length-wordAt ms (r / m))
-
 -- ---- the list
 -- change j + 1 is a move of the digit that the ruler function names, in the direction that the rank of the slower digits gives; members j and j + 1 differ by that move and by nothing else
 pub change-is-ruler : (ms : List ℕ) (j : ℕ) → suc j < size ms
@@ -109,6 +98,32 @@ change-is-ruler ms j h =
     let long = length-wordAt ms j in
     (ap (λ (i : ℕ). difference (member ms i) (member ms (suc j))) before ∙ moves-differ step, step, omega arith, omega arith)
 
+others-same : (a b : ℕ) (w : List ℕ) (o : ℕ) → (o ≡ 0 → ⊥) → getD (b ∷ w) o 0 ≡ getD (a ∷ w) o 0
+others-same a b w zero n = absurd (n refl)
+others-same a b w (suc o) n = refl
+
+next-same : (a : ℕ) (u v : List ℕ) (i : ℕ) → ((o : ℕ) → (o ≡ i → ⊥) → getD v o 0 ≡ getD u o 0) → (o : ℕ) → (o ≡ suc i → ⊥) → getD (a ∷ v) o 0 ≡ getD (a ∷ u) o 0
+next-same a u v i same zero n = refl
+next-same a u v i same (suc o) n = same o (λ e. n (ap suc e))
+
+-- a move by index
+pub moves-apart : {k : ℕ} {d : Bool} {u v : List ℕ} → Moves k d u v → (i : ℕ) × (k ≡ suc i) × OneApart i u v
+moves-apart (up {a} {w}) =
+    (0, refl, record { within = omega arith; long = refl; by-one = inl refl; others = others-same a (suc a) w })
+moves-apart (down {a} {w}) =
+    (0, refl, record { within = omega arith; long = refl; by-one = inr refl; others = others-same (suc a) a w })
+moves-apart (next {a = a} {u = u} {v = v} p) =
+    let (i, e, r) = moves-apart p in
+    let deeper = r .within in (
+      suc i,
+      ap suc e,
+      record { within = omega arith; long = ap suc (r .long); by-one = r .by-one; others = next-same a u v i (r .others) },
+    )
+
+-- members j and j + 1 differ in exactly one digit, by one
+pub neighbours-differ-once : (ms : List ℕ) (j : ℕ) → suc j < size ms → (i : ℕ) × (ruler ms (suc j) ≡ suc i) × OneApart i (member ms j) (member ms (suc j))
+neighbours-differ-once ms j h = moves-apart (change-is-ruler ms j h .1)
+
 -- the ruler function at N is n + 1: the entry that ends a walk
 pub ruler-at-end : (ms : List ℕ) → allFrom 1 ms ≡ true → ruler ms (size ms) ≡ suc (length ms)
 unfolding allFrom size
@@ -120,21 +135,6 @@ ruler-at-end (m ∷ ms) e =
     ∙ ap suc (ruler-at-end ms others)
 
 -- ---- the ruler function of document 004: 1 + the largest i for which m_1 .. m_i divides j
-pub size-pos : (ms : List ℕ) → allFrom 1 ms ≡ true → 0 < size ms
-unfolding allFrom size
-size-pos [] e = omega arith
-size-pos (m ∷ ms) e =
-    let (first, others) = both (leb 1 m) (allFrom 1 ms) e in
-    mul-pos (leb-true 1 m first) (size-pos ms others)
-
-allFrom-take : (k i : ℕ) (ms : List ℕ) → allFrom k ms ≡ true → allFrom k (take i ms) ≡ true
-unfolding allFrom
-allFrom-take k zero ms e = refl
-allFrom-take k (suc i) [] e = refl
-allFrom-take k (suc i) (m ∷ ms) e =
-    let (first, others) = both (leb k m) (allFrom k ms) e in
-    rw first (allFrom-take k i ms others)
-
 ruler-pos : (ms : List ℕ) (j : ℕ) → 0 < ruler ms j
 ruler-pos [] j = unfold ruler in omega arith
 ruler-pos (m ∷ ms) j =

@@ -32,13 +32,13 @@ pub enum Written {
 }
 
 // A product of radices, within the limit of 2^62 or over it.
-pub enum Product {
+enum Product {
     Within(u64),
     Over,
 }
 
 // Whether a setting passes its check.
-pub enum Checked {
+enum Checked {
     Fine,
     Refused(u8),
 }

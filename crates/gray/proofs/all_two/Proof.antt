@@ -1,16 +1,12 @@
 -- `gray::all_two` meets its contract: after i turns it has tested the slowest i radices. Assumes nothing.
 use Prim.Native.Nat.{_≤_, _-_}
-use mathlib.Core.Path.{_≡_, refl, sym, ap, _∙_}
+use mathlib.Core.Path.{_≡_, refl}
 use native.Mathlib.Omega.{arith}
-use lib.ListN.{length, take, getD}
-use lib.Dec.{leb}
-use mathlib.Core.Bool.{_&&_}
+use lib.ListN.{length, take}
 use Rattle.gray.specs.Radices.{digits, allFrom}
 use Rattle.gray.proofs.Laws.{tested-more, tested-all}
 use Rattle.gray.proofs.all_two.Statement.{statement}
 use Rattle.gray.proofs.all_two.Tie as tie
-use Rattle.gray.proofs.all_two.Reads as reads
-use Rattle.gray.proofs.all_two.Lts as lts
 
 abbrev Inv-loop : tie.InvT-loop
 Inv-loop radices ok₀ i₀ ok i = (i ≤ length radices) × (ok ≡ allFrom 2 (digits (take i radices)))

@@ -1,10 +1,8 @@
+-- `gray::move_digit` meets its contract. Assumes nothing.
 use Rattle.gray.proofs.Laws.{masked}
 use Rattle.gray.proofs.move_digit.Statement.{statement}
 use Rattle.gray.proofs.move_digit.Tie as tie
-use Rattle.gray.proofs.move_digit.Reads as reads
-use Rattle.gray.proofs.move_digit.Lts as lts
 
--- src/lib.rt:243:1
 returns : tie.Need-returns
 returns c = masked (c .args .byte)
 

@@ -1,10 +1,8 @@
+-- `gray::move_down` meets its contract. Assumes nothing.
 use Rattle.gray.proofs.Laws.{shifted}
 use Rattle.gray.proofs.move_down.Statement.{statement}
 use Rattle.gray.proofs.move_down.Tie as tie
-use Rattle.gray.proofs.move_down.Reads as reads
-use Rattle.gray.proofs.move_down.Lts as lts
 
--- src/lib.rt:249:1
 returns : tie.Need-returns
 returns c = shifted (c .args .byte) (c .fits .byte .fits)
 

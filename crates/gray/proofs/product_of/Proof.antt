@@ -1,53 +1,43 @@
-use Prim.Native.Nat.{ℕ, _≤_, _-_, _^_}
-use mathlib.Core.Path.{_≡_, refl, sym, ap, _∙_}
+-- `gray::product_of` meets its contract: after i turns p is the product of the slowest i radices, and within 2^62. Assumes nothing.
+use Prim.Native.Nat.{_≤_, _-_, _^_}
+use mathlib.Core.Path.{_≡_, refl, sym, _∙_}
 use native.Mathlib.Omega.{arith}
 use borrow.Author.Needs.{needs}
-use lib.ListN.{length, take, getD}
-use Rattle.gray.specs.Radices.{digits, size, allFrom}
+use lib.ListN.{length, take}
+use Rattle.gray.specs.Radices.{digits, size}
 use Rattle.gray.specs.Digits.{radix-from}
-use Rattle.gray.proofs.Laws.{within-says, size-more, product-over, size-all}
+use Rattle.gray.proofs.Laws.{product-more, product-over, size-all}
 use Rattle.gray.proofs.product_of.Statement.{statement}
 use Rattle.gray.proofs.product_of.Tie as tie
-use Rattle.gray.proofs.product_of.Reads as reads
-use Rattle.gray.proofs.product_of.Lts as lts
-use Rattle.gray.proofs.times.Reads as times-reads
-use Rattle.gray.proofs.wide.Reads as wide-reads
 
 abbrev Inv-loop : tie.InvT-loop
-Inv-loop radices p₀ i₀ p i = (i ≤ length radices) × (p ≡ size (digits (take i radices))) × (p ≤ 2 ^ 62)
+Inv-loop radices p₀ i₀ p i = (i ≤ length radices) × ((p ≡ size (digits (take i radices))) × (p ≤ 2 ^ 62))
 
 abbrev μ-loop : tie.MeasureT-loop
 μ-loop radices p₀ i₀ p i = length radices - i
 
--- src/lib.rt:94:5
 loop-holds : tie.Need-loop-holds Inv-loop μ-loop
-loop-holds c = unfold size in (omega arith, refl, omega arith)
+loop-holds c = unfold size in (omega arith, (refl, omega arith))
 
--- src/lib.rt:95:34
 shared-slice-read-wide : tie.Need-shared-slice-read-wide Inv-loop μ-loop
 shared-slice-read-wide c = omega arith
 
--- src/lib.rt:95:29
 wide-requires : tie.Need-wide-requires Inv-loop μ-loop
 wide-requires c κs = search needs
 
--- src/lib.rt:95:13
 times-requires : tie.Need-times-requires Inv-loop μ-loop
 times-requires c κs =
     let turn = c .before .before in
     let least = radix-from 2 (turn .before .before .before .args .radices .now) (turn .before .loop .i) (turn .loop-test .taken) (turn .before .before .before .pre) in
     let byte = c .wide .ensures .0 in
-    (turn .before .loop .inv .2, omega arith, c .wide .ensures .1)
+    (turn .before .loop .inv .1 .1, omega arith, c .wide .ensures .1)
 
--- src/lib.rt:96:29
 enum-known-next : tie.Need-enum-known-next Inv-loop μ-loop
 enum-known-next c = search needs
 
--- src/lib.rt:97:13
 enum-told : tie.Need-enum-told Inv-loop μ-loop
 enum-told c = search needs
 
--- src/lib.rt:97:13
 returns : tie.Need-returns Inv-loop μ-loop
 returns c =
     let told = c .before .before in
@@ -56,31 +46,29 @@ returns c =
     (turn .before .before .before .pre)
     (turn .loop-test .taken)
     (told .before .wide .ensures .0)
-    (turn .before .loop .inv .1)
+    (turn .before .loop .inv .1 .0)
     (sym (told .times .ensures) ∙ c .enum-told .given .1)
 
--- src/lib.rt:100:9
 add-i : tie.Need-add-i Inv-loop μ-loop
 add-i c = omega arith
 
--- src/lib.rt:94:5
 loop-less : tie.Need-loop-less Inv-loop μ-loop
 loop-less c = omega arith
 
--- src/lib.rt:94:5
 loop-again : tie.Need-loop-again Inv-loop μ-loop
 loop-again c =
     let told = c .before .before .before in
-    let turn = told .before .before .before in
-    let said = within-says _ _ (sym (told .times .ensures) ∙ c .before .next .given .1) in (
-      search needs,
-      said .0 ∙ size-more _ _ _ _ (turn .loop-test .taken) (told .before .wide .ensures .0) (turn .before .loop .inv .1),
-      said .1,
+    let turn = told .before .before .before in (
+      omega arith,
+      product-more _ _ _ _ _
+          (turn .loop-test .taken)
+          (told .before .wide .ensures .0)
+          (turn .before .loop .inv .1 .0)
+          (sym (told .times .ensures) ∙ c .before .next .given .1),
     )
 
--- src/lib.rt:88:1
 returns-2 : tie.Need-returns-2 Inv-loop μ-loop
-returns-2 c = size-all _ _ _ (c .loop-test .left) (c .before .loop .inv .1) (c .before .loop .inv .2)
+returns-2 c = size-all _ _ _ (c .loop-test .left) (c .before .loop .inv .1 .0) (c .before .loop .inv .1 .1)
 
 pub product-of-spec : {M : Type 1} → statement M
 product-of-spec =

@@ -1,10 +1,11 @@
-use Prim.Native.Nat.{ℕ, _≤_, _<_, _-_, _/_, _%_}
-use mathlib.Core.Path.{_≡_, refl, sym, ap, _∙_}
+-- `gray::put_word` meets its contract: with i digits to go, their word at the quotient q and the bytes from i on make up the output that is owed. Assumes nothing.
+use Prim.Native.Nat.{_≤_, _<_, _-_, _/_, _%_}
+use mathlib.Core.Path.{_≡_, refl, ap}
 use mathlib.Core.List.{_++_}
 use native.Mathlib.Nat.{mod-lt}
 use native.Mathlib.Omega.{arith}
 use borrow.Author.Needs.{needs}
-use lib.ListN.{length, take, drop, getD, length-set}
+use lib.ListN.{length, take, drop, length-set}
 use Rattle.gray.specs.Radices.{digits, bytes}
 use Rattle.gray.specs.Words.{reflect}
 use Rattle.gray.specs.Members.{wordAt}
@@ -13,10 +14,6 @@ use Rattle.gray.specs.Digits.{radix-from, taken}
 use Rattle.gray.proofs.Laws.{put-more, put-all}
 use Rattle.gray.proofs.put_word.Statement.{statement}
 use Rattle.gray.proofs.put_word.Tie as tie
-use Rattle.gray.proofs.put_word.Reads as reads
-use Rattle.gray.proofs.put_word.Lts as lts
-use Rattle.gray.proofs.reflect.Reads as reflect-reads
-use Rattle.gray.proofs.wide.Reads as wide-reads
 
 abbrev Inv-loop : tie.InvT-loop
 Inv-loop radices rank out₀ q₀ i₀ out q i =
@@ -27,7 +24,6 @@ Inv-loop radices rank out₀ q₀ i₀ out q i =
 abbrev μ-loop : tie.MeasureT-loop
 μ-loop radices rank out₀ q₀ i₀ out q i = i
 
--- src/lib.rt:210:5
 loop-holds : tie.Need-loop-holds Inv-loop μ-loop
 loop-holds c =
     let start = c .before .before in
@@ -37,15 +33,12 @@ loop-holds c =
       ap (λ t. bytes (wordAt (digits t) (start .args .rank)) ++ drop (length l) (start .args .out .now)) (taken l (length l) (omega arith)),
     )
 
--- src/lib.rt:211:9
 sub-i : tie.Need-sub-i Inv-loop μ-loop
 sub-i c = omega arith
 
--- src/lib.rt:212:22
 shared-slice-read-wide : tie.Need-shared-slice-read-wide Inv-loop μ-loop
 shared-slice-read-wide c = omega arith
 
--- src/lib.rt:212:13
 wide-requires : tie.Need-wide-requires Inv-loop μ-loop
 wide-requires c κs = search needs
 
@@ -58,19 +51,15 @@ positive c =
     let m = c .wide .ensures .0 in
     omega arith
 
--- src/lib.rt:213:17
 rem-b : tie.Need-rem-b Inv-loop μ-loop
 rem-b c = positive c
 
--- src/lib.rt:214:13
 div-q : tie.Need-div-q Inv-loop μ-loop
 div-q c = positive c
 
--- src/lib.rt:215:18
 reflect-requires : tie.Need-reflect-requires Inv-loop μ-loop
 reflect-requires c κs = mod-lt _ (positive c)
 
--- src/lib.rt:215:18
 cast-out : tie.Need-cast-out Inv-loop μ-loop
 cast-out c =
     let q = c .before .before .before .before .loop .q in
@@ -80,18 +69,15 @@ cast-out c =
     let byte = c .before .wide .ensures .1 in
     omega arith
 
--- src/lib.rt:215:9
 slice-write-out : tie.Need-slice-write-out Inv-loop μ-loop
 slice-write-out c =
     let start = c .before .before .before .before .before .before .before in
     let room = start .pre .room in
     omega arith
 
--- src/lib.rt:210:5
 loop-less : tie.Need-loop-less Inv-loop μ-loop
 loop-less c = omega arith
 
--- src/lib.rt:210:5
 loop-again : tie.Need-loop-again Inv-loop μ-loop
 loop-again c =
     let turn = c .before .before .before in
@@ -109,11 +95,9 @@ loop-again c =
           (turn .before .loop .inv .2),
     )
 
--- src/lib.rt:204:1
 same-length : tie.Need-same-length Inv-loop μ-loop
 same-length c = c .before .loop .inv .1
 
--- src/lib.rt:204:1
 returns : tie.Need-returns Inv-loop μ-loop
 returns c = put-all (c .before .before .before .before .args .radices .now) _ _ (c .before .loop .i) (c .before .loop .q) (c .loop-test .left) (c .before .loop .inv .2)
 

@@ -8,13 +8,6 @@ use Rattle.gray.proofs.Laws.{fine-says, word-refused, rank-given}
 use borrow.Author.Needs.{needs}
 use Rattle.gray.proofs.rank.Statement.{statement}
 use Rattle.gray.proofs.rank.Tie as tie
-use Rattle.gray.proofs.rank.Reads as reads
-use Rattle.gray.proofs.rank.Lts as lts
-use Rattle.gray.proofs.Checked.number.Reads as Checked-number-reads
-use Rattle.gray.proofs.Counted.number.Reads as Counted-number-reads
-use Rattle.gray.proofs.check_word.Reads as check-word-reads
-use Rattle.gray.proofs.rank_from.Reads as rank-from-reads
-use Rattle.gray.proofs.size.Reads as size-reads
 
 -- what has been learnt once the radices are accepted, and once the word is
 size-is : (c : tie.After-check-word) → sizeCall (c .before .before .before .before .before .before .args .radices .now) ≡ given (c .before .enum-told .given .0 .0)
@@ -29,55 +22,45 @@ rankable c =
       limit = sized .limit;
     }
 
--- src/lib.rt:192:9
 size-requires : tie.Need-size-requires
 size-requires c κs = search needs
 
 enum-told : tie.Need-enum-told
 enum-told c = search needs
 
--- src/lib.rt:194:32
 enum-told-2 : tie.Need-enum-told-2
 enum-told-2 c = search needs
 
--- src/lib.rt:194:32
 number-requires : tie.Need-number-requires
 number-requires c κs = search needs
 
--- src/lib.rt:194:9
 returns : tie.Need-returns
 unfolding rankCall
 returns c =
     let told = c .before in
     passed-on _ _ _ _ _ (told .before .before .size .ensures) (told .enum-told2 .given .1) (c .number .ensures)
 
--- src/lib.rt:196:9
 check-word-requires : tie.Need-check-word-requires
 check-word-requires c κs = search needs
 
 enum-told-3 : tie.Need-enum-told-3
 enum-told-3 c = search needs
 
--- src/lib.rt:198:32
 enum-told-4 : tie.Need-enum-told-4
 enum-told-4 c = search needs
 
--- src/lib.rt:198:32
 number-requires-2 : tie.Need-number-requires-2
 number-requires-2 c κs = search needs
 
--- src/lib.rt:198:9
 returns-2 : tie.Need-returns-2
 returns-2 c =
     let told = c .before in
     let tested = told .before .before in
     word-refused _ _ _ (size-is tested) _ _ _ (tested .check-word .ensures) (told .enum-told4 .given .1) (c .number2 .ensures)
 
--- src/lib.rt:200:18
 rank-from-requires : tie.Need-rank-from-requires
 rank-from-requires c κs = rankable c
 
--- src/lib.rt:189:1
 returns-3 : tie.Need-returns-3
 returns-3 c = ap given (c .rank-from .ensures) ∙ rank-given _ _ _ (size-is (c .before .before .before)) (rankable (c .before) .one)
 

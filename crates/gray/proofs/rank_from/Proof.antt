@@ -1,18 +1,15 @@
-use Prim.Native.Nat.{ℕ, _≤_, _<_, _-_, _+_, _*_, _^_}
-use mathlib.Core.Path.{_≡_, refl, sym, ap, _∙_}
+-- `gray::rank_from` meets its contract: after i turns p is the rank of the slowest i digits. Assumes nothing.
+use Prim.Native.Nat.{_≤_, _<_, _-_, _+_, _*_, _^_}
+use mathlib.Core.Path.{_≡_, refl}
 use native.Mathlib.Omega.{arith}
 use borrow.Author.Needs.{needs}
-use lib.ListN.{length, take, getD}
+use lib.ListN.{length, take}
 use Rattle.gray.specs.Radices.{digits}
 use Rattle.gray.specs.Words.{rank}
 use Rattle.gray.specs.Digits.{word-long, digit-below}
 use Rattle.gray.proofs.Laws.{rank-more, rank-small, rank-all}
 use Rattle.gray.proofs.rank_from.Statement.{statement}
 use Rattle.gray.proofs.rank_from.Tie as tie
-use Rattle.gray.proofs.rank_from.Reads as reads
-use Rattle.gray.proofs.rank_from.Lts as lts
-use Rattle.gray.proofs.reflect.Reads as reflect-reads
-use Rattle.gray.proofs.wide.Reads as wide-reads
 
 abbrev Inv-loop : tie.InvT-loop
 Inv-loop radices word p₀ i₀ p i = (i ≤ length radices) × (p ≡ rank (digits (take i radices)) (digits (take i word)))
@@ -20,30 +17,24 @@ Inv-loop radices word p₀ i₀ p i = (i ≤ length radices) × (p ≡ rank (dig
 abbrev μ-loop : tie.MeasureT-loop
 μ-loop radices word p₀ i₀ p i = length radices - i
 
--- src/lib.rt:182:5
 loop-holds : tie.Need-loop-holds Inv-loop μ-loop
 loop-holds c = unfold rank in (omega arith, refl)
 
--- src/lib.rt:183:22
 shared-slice-read-wide : tie.Need-shared-slice-read-wide Inv-loop μ-loop
 shared-slice-read-wide c = omega arith
 
--- src/lib.rt:183:13
 wide-requires : tie.Need-wide-requires Inv-loop μ-loop
 wide-requires c κs = search needs
 
--- src/lib.rt:184:36
 shared-slice-read-wide-2 : tie.Need-shared-slice-read-wide-2 Inv-loop μ-loop
 shared-slice-read-wide-2 c =
     let start = c .before .before .before .before .before .before .before in
     let long = word-long (start .args .radices .now) (start .args .word .now) (start .pre .one) in
     omega arith
 
--- src/lib.rt:184:31
 wide-requires-2 : tie.Need-wide-requires-2 Inv-loop μ-loop
 wide-requires-2 c κs = search needs
 
--- src/lib.rt:184:13
 reflect-requires : tie.Need-reflect-requires Inv-loop μ-loop
 reflect-requires c κs =
     let turn = c .before .before .before .before in
@@ -68,27 +59,21 @@ ranked c =
     let small = rank-small l w (start .pre .one) (turn .before .loop .i + 1) (start .pre .two) (start .pre .limit) in
     (same, rw same small)
 
--- src/lib.rt:185:13
 mul-p : tie.Need-mul-p Inv-loop μ-loop
 mul-p c = let r = ranked c .1 in omega arith
 
--- src/lib.rt:185:13
 add-p : tie.Need-add-p Inv-loop μ-loop
 add-p c = let r = ranked c .1 in omega arith
 
--- src/lib.rt:186:9
 add-i : tie.Need-add-i Inv-loop μ-loop
 add-i c = omega arith
 
--- src/lib.rt:182:5
 loop-less : tie.Need-loop-less Inv-loop μ-loop
 loop-less c = omega arith
 
--- src/lib.rt:182:5
 loop-again : tie.Need-loop-again Inv-loop μ-loop
 loop-again c = (omega arith, ranked c .0)
 
--- src/lib.rt:174:1
 returns : tie.Need-returns Inv-loop μ-loop
 returns c =
     let start = c .before .before .before .before in

@@ -1,24 +1,19 @@
+-- `gray::reflect` meets its contract. Assumes nothing.
 use Prim.Native.Nat.{_%_}
 use borrow.Author.Tests.{eq-eqb, ne-eqb}
 use borrow.Author.Needs.{needs}
 use Rattle.gray.proofs.reflect.Statement.{statement}
 use Rattle.gray.proofs.reflect.Tie as tie
-use Rattle.gray.proofs.reflect.Reads as reads
-use Rattle.gray.proofs.reflect.Lts as lts
 
--- src/lib.rt:144:32
 sub-result : tie.Need-sub-result
 sub-result c = search needs
 
--- src/lib.rt:144:32
 sub-result-2 : tie.Need-sub-result-2
 sub-result-2 c = search needs
 
--- src/lib.rt:140:1
 returns : tie.Need-returns
 returns c = rw (eq-eqb (c .before .args .p % 2) 0 (c .if1 .taken))
 
--- src/lib.rt:140:1
 returns-2 : tie.Need-returns-2
 returns-2 c = rw (ne-eqb (c .before .args .p % 2) 0 (c .if1 .left))
 

@@ -9,32 +9,22 @@ use Rattle.gray.proofs.Laws.{rank-refused, room-refused, word-given, wo
 use borrow.Author.Needs.{needs}
 use Rattle.gray.proofs.word.Statement.{statement}
 use Rattle.gray.proofs.word.Tie as tie
-use Rattle.gray.proofs.word.Reads as reads
-use Rattle.gray.proofs.word.Lts as lts
-use Rattle.gray.proofs.Counted.number.Reads as number-reads
-use Rattle.gray.proofs.put_word.Reads as put-word-reads
-use Rattle.gray.proofs.size.Reads as size-reads
 
 size-is : (c : tie.After-known-told) → sizeCall (c .before .before .before .before .before .before .args .radices .now) ≡ given (c .before .counted .given .0 .0)
 size-is c = sym (c .before .before .before .size .ensures) ∙ ap countedAs (c .before .counted .given .1)
 
--- src/lib.rt:222:9
 size-requires : tie.Need-size-requires
 size-requires c κs = search needs
 
--- src/lib.rt:223:23
 enum-known-counted : tie.Need-enum-known-counted
 enum-known-counted c = search needs
 
--- src/lib.rt:224:33
 enum-told : tie.Need-enum-told
 enum-told c = search needs
 
--- src/lib.rt:224:33
 number-requires : tie.Need-number-requires
 number-requires c κs = search needs
 
--- src/lib.rt:224:9
 returns : tie.Need-returns
 unfolding wordCall
 returns c =
@@ -43,7 +33,6 @@ returns c =
     wrote-nothing (wordCall (start .args .radices .now) (start .args .rank)) (c .number .result) (start .args .out .now)
     (sym (passed-on _ _ _ _ _ (told .before .before .size .ensures) (told .enum-told .given .1) (c .number .ensures)))
 
--- src/lib.rt:227:9
 returns-2 : tie.Need-returns-2
 returns-2 c =
     let sized = c .before in
@@ -51,7 +40,6 @@ returns-2 c =
     wrote-nothing (wordCall (start .args .radices .now) (start .args .rank)) 8 (start .args .out .now)
     (rank-refused _ _ _ (size-is sized) _ (c .if1 .taken))
 
--- src/lib.rt:230:9
 returns-3 : tie.Need-returns-3
 returns-3 c =
     let sized = c .before .before in
@@ -59,17 +47,14 @@ returns-3 c =
     wrote-nothing (wordCall (start .args .radices .now) (start .args .rank)) 9 (start .args .out .now)
     (room-refused _ _ _ (size-is sized) _ (c .before .if1 .left) (c .if2 .taken))
 
--- src/lib.rt:232:5
 put-word-requires : tie.Need-put-word-requires
 put-word-requires c κs =
     let sized = c .before .before .before in
     record { two = accepted _ _ (size-is sized) .two; room = c .before .if2 .left }
 
--- src/lib.rt:219:1
 same-length : tie.Need-same-length
 same-length c = search needs
 
--- src/lib.rt:219:1
 returns-4 : tie.Need-returns-4
 returns-4 c =
     let put = c .before .before in
