@@ -179,7 +179,8 @@ fn rank_from(radices: &[u8], word: &[u8]) -> u64
     let mut i = 0;
     while i < radices.len() {
         let m = wide(radices[i]);
-        let b = reflect(m, p, wide(word[i]));
+        let a = wide(word[i]);
+        let b = reflect(m, p, a);
         p = p * m + b;
         i += 1;
     }

