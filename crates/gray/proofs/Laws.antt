@@ -4,7 +4,7 @@ use native.Mathlib.Nat.{mul-le-mul, div-lt-iff-lt-mul, le-div-iff-mul-le, mul-co
 use native.Mathlib.Decide.{decLe}
 use native.Mathlib.Omega.{arith}
 use mathlib.Core.Path.{_≡_, refl, sym, ap, ap₂, _∙_}
-use mathlib.Core.Bool.{Bool, true, false, _&&_, _||_}
+use mathlib.Core.Bool.{not, Bool, true, false, _&&_, _||_}
 use mathlib.Core.List.{List, _∷_, _++_, reverse-cons}
 use borrow.Author.Tests.{eq-eqb, ne-eqb, lt-ltb, le-ltb, le-leb, lt-leb, ltb-true, ltb-false}
 use lib.Bits.{bitAnd, bitOr, and-mask, or-shifted-r, or-zero-r}
@@ -16,7 +16,7 @@ use Rattle.gray.specs.MoveBytes.{moveByte, moveDigit, moveDown}
 use Rattle.gray.specs.Answers.{given, refused}
 use Rattle.gray.specs.Radices.{digits, bytes, size, allFrom, wrongCount}
 use Rattle.gray.specs.Calls.{sizeCall, rankCall, wordCall}
-use Rattle.gray.specs.Refusals.{accepted, radices-accepted}
+use Rattle.gray.specs.Refusals.{Fault.count, Fault.radix, Fault.many, Fault.none, lowest-fault-is-given, accepted, radices-accepted}
 use Rattle.gray.specs.Stages.{productAs, checkedAs, checkNumber}
 use Rattle.gray.specs.declared.Checked.{Checked}
 use Rattle.gray.specs.declared.Checked.the-variants.{Fine, Refused as CheckRefused}
@@ -94,22 +94,24 @@ module _ (l : List ℕ) where
 
   pub count-refused : (eqb (length l) 0 || ltb 48 (length l)) ≡ true → refused 2 ≡ sizeCall l
   unfolding sizeCall
-  count-refused e = rw (sym same-count ∙ e)
+  count-refused e = sym (lowest-fault-is-given (digits l) (count (sym same-count ∙ e)) (given (size (digits l))))
 
   pub radix-refused : (eqb (length l) 0 || ltb 48 (length l)) ≡ false → allFrom 2 (digits l) ≡ false → refused 3 ≡ sizeCall l
   unfolding sizeCall
-  radix-refused e f = rw (sym same-count ∙ e, f)
+  radix-refused e f = sym (lowest-fault-is-given (digits l) (radix (sym same-count ∙ e) (ap not f)) (given (size (digits l))))
 
   pub size-refused : (eqb (length l) 0 || ltb 48 (length l)) ≡ false → allFrom 2 (digits l) ≡ true → productAs (size (digits l)) ≡ Over → refused 4 ≡ sizeCall l
   unfolding sizeCall
-  size-refused e f o = rw (sym same-count ∙ e, f, lt-ltb (2 ^ 62) (size (digits l)) (over-says (size (digits l)) o))
+  size-refused e f o =
+      let over = lt-ltb (2 ^ 62) (size (digits l)) (over-says (size (digits l)) o) in
+      sym (lowest-fault-is-given (digits l) (many (sym same-count ∙ e) (ap not f) over) (given (size (digits l))))
 
   pub size-given : (n : ℕ) → (eqb (length l) 0 || ltb 48 (length l)) ≡ false → allFrom 2 (digits l) ≡ true → productAs (size (digits l)) ≡ Within n → given n ≡ sizeCall l
   unfolding sizeCall
   size-given n e f w =
       let said = within-says (size (digits l)) n w in
-      let small : size (digits l) ≤ 2 ^ 62 = omega arith in
-      rw (sym same-count ∙ e, f, le-ltb (2 ^ 62) (size (digits l)) small) (ap given (said .0))
+      let small = le-ltb (2 ^ 62) (size (digits l)) (omega arith) in
+      ap given (said .0) ∙ sym (lowest-fault-is-given (digits l) (none (sym same-count ∙ e) (ap not f) small) (given (size (digits l))))
 
 -- ---- all_below
 pub below-more : (l w : List ℕ) (i : ℕ) (ok : Bool) → i < length l → length w ≡ length l → ok ≡ isWord (digits (take i l)) (digits (take i w)) → ltb (getD w i 0) (getD l i 0) && ok ≡ isWord (digits (take (i + 1) l)) (digits (take (i + 1) w))

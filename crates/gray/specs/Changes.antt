@@ -1,13 +1,13 @@
 -- The changes from each setting of the list to the next, and the ruler function that names their digits (document 004, section 10.3).
 use Prim.Native.Nat.{ℕ, suc, _-_, _/_, _%_, _<_}
+use mathlib.Core.Path.{_≡_}
+use mathlib.Core.Logic.{_⊎_}
 use mathlib.Core.Bool.{Bool, true, false, cond, not}
 use mathlib.Core.List.{List, [], _∷_}
 use lib.Dec.{eqb, ltb}
 use lib.ListN.{take, length, getD}
 use Rattle.gray.specs.Radices.{size}
 use Rattle.gray.specs.Words.{even, member}
-use mathlib.Core.Path.{_≡_}
-use mathlib.Core.Logic.{_⊎_}
 
 -- a move of one digit by one notch: the digit's number, from 1, and whether it goes down
 pub record Change : Type 0 where

@@ -13,7 +13,8 @@ pub mod Members
 pub mod Ranks
 pub mod Rulers
 pub mod Bounds
-pub mod Moves
+pub mod Packing
+pub mod RoundTrips
 -- laws
 pub mod Bools
 pub mod Sizes

@@ -14,26 +14,72 @@ use Rattle.gray.specs.declared.Counted.{Counted}
 use Rattle.gray.specs.declared.Counted.the-variants.{Refused}
 use Rattle.gray.specs.Bools.{neither}
 
--- ---- three checks in a row, whatever comes after them
-abbrev checks : {A : Type 0} → Bool → Bool → Bool → Answer A → Answer A
-checks a b c rest = refusing 2 a (refusing 3 b (refusing 4 c rest))
+-- ---- the lowest fault that applies
+-- what is wrong with radices, if anything: a fault of document 01, and that no lower one applies
+pub data Fault (ms : List ℕ) : Type 0 where
+  count : wrongCount ms ≡ true → Fault ms
+  radix : wrongCount ms ≡ false → wrongRadix ms ≡ true → Fault ms
+  many : wrongCount ms ≡ false → wrongRadix ms ≡ false → tooMany ms ≡ true → Fault ms
+  none : wrongCount ms ≡ false → wrongRadix ms ≡ false → tooMany ms ≡ false → Fault ms
 
-stops : {A : Type 0} (a b c : Bool) (n k : ℕ) (rest : Answer A) → checks a b c (given n) ≡ refused k → checks a b c rest ≡ refused k
-stops true b c n k rest e = let t : 2 ≡ k = cc in ap refused t
-stops false true c n k rest e = let t : 3 ≡ k = cc in ap refused t
-stops false false true n k rest e = let t : 4 ≡ k = cc in ap refused t
-stops false false false n k rest e = let z : _≡_ {A = ℕ} 0 1 = cc in absurd (omega arith)
+pub fault : (ms : List ℕ) → Fault ms
+fault ms = go (wrongCount ms) (wrongRadix ms) (tooMany ms) refl refl refl
+  where
+    go : (a b c : Bool) → wrongCount ms ≡ a → wrongRadix ms ≡ b → tooMany ms ≡ c → Fault ms
+    go true b c e f g = count e
+    go false true c e f g = radix e f
+    go false false true e f g = many e f g
+    go false false false e f g = none e f g
 
-passes : (a b c : Bool) (n k : ℕ) → checks a b c (given n) ≡ given k → (a ≡ false) × (b ≡ false) × (c ≡ false) × (n ≡ k)
-passes true b c n k e = let z : _≡_ {A = ℕ} 0 1 = cc in absurd (omega arith)
-passes false true c n k e = let z : _≡_ {A = ℕ} 0 1 = cc in absurd (omega arith)
-passes false false true n k e = let z : _≡_ {A = ℕ} 0 1 = cc in absurd (omega arith)
-passes false false false n k e = (refl, refl, refl, cc)
+abbrev pub decided : {A : Type 0} {ms : List ℕ} → Fault ms → Answer A → Answer A
+decided (count e) rest = refused 2
+decided (radix e f) rest = refused 3
+decided (many e f g) rest = refused 4
+decided (none e f g) rest = rest
+
+-- radices get the number of the lowest fault that applies, and what has no fault is not refused
+pub lowest-fault-is-given : {A : Type 0} (ms : List ℕ) (f : Fault ms) (rest : Answer A) → ofRadices ms rest ≡ decided f rest
+lowest-fault-is-given ms (count e) rest = rw e
+lowest-fault-is-given ms (radix e f) rest = rw (e, f)
+lowest-fault-is-given ms (many e f g) rest = rw (e, f, g)
+lowest-fault-is-given ms (none e f g) rest = rw (e, f, g)
 
 -- ---- radices that are refused, and radices that are accepted
+pub given-same : {A : Type 0} (a b : A) → given a ≡ given b → a ≡ b
+given-same a b e = cc
+
+same-refusal : {A : Type 0} {ms : List ℕ} (f : Fault ms) (n k : ℕ) (rest : Answer A) → decided f (given n) ≡ refused k → decided f rest ≡ refused k
+same-refusal (count e) n k rest p = let t : 2 ≡ k = cc in ap refused t
+same-refusal (radix e f) n k rest p = let t : 3 ≡ k = cc in ap refused t
+same-refusal (many e f g) n k rest p = let t : 4 ≡ k = cc in ap refused t
+same-refusal (none e f g) n k rest p = let z : _≡_ {A = ℕ} 0 1 = cc in absurd (omega arith)
+
 pub radices-refused : {A : Type 0} (l : List ℕ) (k : ℕ) (rest : Answer A) → sizeCall l ≡ refused k → ofRadices (digits l) rest ≡ refused k
 unfolding sizeCall
-radices-refused l k rest e = stops (wrongCount (digits l)) (wrongRadix (digits l)) (tooMany (digits l)) (size (digits l)) k rest e
+radices-refused l k rest e =
+    let f = fault (digits l) in
+    lowest-fault-is-given (digits l) f rest ∙ same-refusal f (size (digits l)) k rest (sym (lowest-fault-is-given (digits l) f (given (size (digits l)))) ∙ e)
+
+-- a check that lets a value through was passed
+pub passed : {A : Type 0} (k : ℕ) (wrong : Bool) (rest : Answer A) (a : A) → refusing k wrong rest ≡ given a → (wrong ≡ false) × (rest ≡ given a)
+passed k true rest a e = let z : _≡_ {A = ℕ} 0 1 = cc in absurd (omega arith)
+passed k false rest a e = (refl, e)
+
+-- radices with which a call gives a value have no fault
+pub record Faultless {A : Type 0} (ms : List ℕ) (rest : Answer A) (a : A) : Type 0 where
+  pub no-count : wrongCount ms ≡ false
+  pub no-radix : wrongRadix ms ≡ false
+  pub no-many : tooMany ms ≡ false
+  pub value : rest ≡ given a
+
+no-fault : {A : Type 0} {ms : List ℕ} (f : Fault ms) (rest : Answer A) (a : A) → decided f rest ≡ given a → Faultless ms rest a
+no-fault (count e) rest a p = let z : _≡_ {A = ℕ} 0 1 = cc in absurd (omega arith)
+no-fault (radix e f) rest a p = let z : _≡_ {A = ℕ} 0 1 = cc in absurd (omega arith)
+no-fault (many e f g) rest a p = let z : _≡_ {A = ℕ} 0 1 = cc in absurd (omega arith)
+no-fault (none e f g) rest a p = record { no-count = e; no-radix = f; no-many = g; value = p }
+
+pub faultless : {A : Type 0} (ms : List ℕ) (rest : Answer A) (a : A) → ofRadices ms rest ≡ given a → Faultless ms rest a
+faultless ms rest a e = no-fault (fault ms) rest a (sym (lowest-fault-is-given ms (fault ms) rest) ∙ e)
 
 -- what holds of accepted radices
 pub record Accepted (l : List ℕ) (n : ℕ) : Type 0 where
@@ -46,8 +92,8 @@ pub record Accepted (l : List ℕ) (n : ℕ) : Type 0 where
 pub accepted : (l : List ℕ) (n : ℕ) → sizeCall l ≡ given n → Accepted l n
 unfolding sizeCall
 accepted l n e =
-    let p = passes (wrongCount (digits l)) (wrongRadix (digits l)) (tooMany (digits l)) (size (digits l)) n e in
-    let q = neither (eqb (length (digits l)) 0) (ltb 48 (length (digits l))) (p .0) in
+    let p = faultless (digits l) (given (size (digits l))) n e in
+    let q = neither (eqb (length (digits l)) 0) (ltb 48 (length (digits l))) (p .no-count) in
     let no-zero = eqb-false (length (digits l)) 0 (q .0) in
     let most = ltb-false 48 (length (digits l)) (q .1) in
     let long = length-reverse l in
@@ -55,16 +101,23 @@ accepted l n e =
     record {
       some = omega arith;
       most = omega arith;
-      two = not-false (allFrom 2 (digits l)) (p .1);
-      whole = sym (p .3);
-      limit = ltb-false (2 ^ 62) (size (digits l)) (p .2);
+      two = not-false (allFrom 2 (digits l)) (p .no-radix);
+      whole = sym (given-same (size (digits l)) n (p .value));
+      limit = ltb-false (2 ^ 62) (size (digits l)) (p .no-many);
     }
 
 pub radices-accepted : {A : Type 0} (l : List ℕ) (n : ℕ) (rest : Answer A) → sizeCall l ≡ given n → ofRadices (digits l) rest ≡ rest
 unfolding sizeCall
 radices-accepted l n rest e =
-    let p = passes (wrongCount (digits l)) (wrongRadix (digits l)) (tooMany (digits l)) (size (digits l)) n e in
-    rw (p .0, p .1, p .2)
+    let p = faultless (digits l) (given (size (digits l))) n e in
+    rw (p .no-count, p .no-radix, p .no-many)
+
+-- a call that gives a value has accepted its radices
+pub radices-passed : {A : Type 0} (l : List ℕ) (rest : Answer A) (x : A) → ofRadices (digits l) rest ≡ given x → (sizeCall l ≡ given (size (digits l))) × (rest ≡ given x)
+unfolding sizeCall
+radices-passed l rest x e =
+    let p = faultless (digits l) rest x e in
+    (rw (p .no-count, p .no-radix, p .no-many), p .value)
 
 -- a caller of `size` that is refused passes the number on
 pub passed-on : {A : Type 0} (l : List ℕ) (rest : Answer A) (o : Counted) (x number : ℕ)

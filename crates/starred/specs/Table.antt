@@ -16,14 +16,14 @@ use Rattle.starred.specs.Same.{Test, numbers, lists, answers}
 pub record Row : Type 1 where
   pub Value : Type 0
   pub test : Test Value
-  pub given-is : Value
+  pub computed : Value
   pub said : Value
 
 abbrev pub Holds : Row → Type 0
-Holds r = r .given-is ≡ r .said
+Holds r = r .computed ≡ r .said
 
 abbrev pub row : {A : Type 0} → Test A → A → A → Row
-row {A} t a b = record { Value = A; test = t; given-is = a; said = b }
+row {A} t a b = record { Value = A; test = t; computed = a; said = b }
 
 -- the words of the list, and what stands in a list behind a word
 abbrev wordsOf : List ℕ → List (List ℕ)
@@ -57,13 +57,13 @@ table =
 
 passes : List Row → Bool
 passes [] = true
-passes (r ∷ rs) = r .test .same (r .given-is) (r .said) && passes rs
+passes (r ∷ rs) = r .test .same (r .computed) (r .said) && passes rs
 
 each : (rs : List Row) → passes rs ≡ true → (i : ℕ) → i < length rs → Holds (getD rs i (row numbers 0 0))
 unfolding passes
 each [] e i h = absurd (omega arith)
-each (r ∷ rs) e zero h = r .test .shows (r .given-is) (r .said) (both (r .test .same (r .given-is) (r .said)) (passes rs) e .0)
-each (r ∷ rs) e (suc i) h = each rs (both (r .test .same (r .given-is) (r .said)) (passes rs) e .1) i (omega arith)
+each (r ∷ rs) e zero h = r .test .shows (r .computed) (r .said) (both (r .test .same (r .computed) (r .said)) (passes rs) e .0)
+each (r ∷ rs) e (suc i) h = each rs (both (r .test .same (r .computed) (r .said)) (passes rs) e .1) i (omega arith)
 
 tested : passes table ≡ true
 unfolding passes table sizeCall rankCall size allFrom upward downward through list isWord rank
