@@ -1,5 +1,6 @@
-// The boundary of each refusal from both sides, and document 01's first case, through the public calls. Each line is a call and its outcome: a value, or the refusal's
-// number; for a writer also the lent bytes afterwards, which were all 9.
+// The boundary of each refusal from both sides, and document 01's first case, through the public calls.
+// Each line is a call and its outcome: a value, or the refusal's number. A writer's line ends with the
+// lent bytes afterwards; before the first call on a buffer they are all 9.
 
 use gray::Counted;
 use gray::Ranked;

@@ -16,7 +16,8 @@ use Rattle.gray.specs.MoveBytes.{moveByte, moveDigit, moveDown}
 use Rattle.gray.specs.Answers.{given, refused}
 use Rattle.gray.specs.Radices.{digits, bytes, size, allFrom, wrongCount}
 use Rattle.gray.specs.Calls.{sizeCall, rankCall, wordCall}
-use Rattle.gray.specs.Refusals.{Fault.count, Fault.radix, Fault.many, Fault.none, lowest-fault-is-given, accepted, radices-accepted}
+use Rattle.gray.specs.Faults.{Fault.count, Fault.radix, Fault.many, Fault.none, lowest-fault-is-given}
+use Rattle.gray.specs.Refusals.{accepted, radices-accepted}
 use Rattle.gray.specs.Stages.{productAs, checkedAs, checkNumber}
 use Rattle.gray.specs.declared.Checked.{Checked}
 use Rattle.gray.specs.declared.Checked.the-variants.{Fine, Refused as CheckRefused}
@@ -26,13 +27,20 @@ use Rattle.gray.specs.Members.{wordAt, member-is-wordAt, length-wordAt}
 use Rattle.gray.specs.Ranks.{rank-below}
 use Rattle.gray.specs.Digits.{digits-more, taken, size-taken, isWord-taken, word-long}
 use Rattle.gray.specs.Sizes.{allFrom-weaker}
+use Rattle.gray.specs.Bools.{clash}
 
 -- ---- all_two
-pub tested-more : (k : ℕ) (l : List ℕ) (i : ℕ) (ok : Bool) → i < length l → ok ≡ allFrom k (digits (take i l)) → leb k (getD l i 0) && ok ≡ allFrom k (digits (take (i + 1) l))
+pub tested-more : (k : ℕ) (l : List ℕ) (i : ℕ) (ok : Bool)
+    → i < length l
+    → ok ≡ allFrom k (digits (take i l))
+    → leb k (getD l i 0) && ok ≡ allFrom k (digits (take (i + 1) l))
 unfolding allFrom
 tested-more k l i ok h e = rw (digits-more l i h) (ap (λ t. leb k (getD l i 0) && t) e)
 
-pub tested-all : (k : ℕ) (l : List ℕ) (i : ℕ) (ok : Bool) → length l ≤ i → ok ≡ allFrom k (digits (take i l)) → ok ≡ allFrom k (digits l)
+pub tested-all : (k : ℕ) (l : List ℕ) (i : ℕ) (ok : Bool)
+    → length l ≤ i
+    → ok ≡ allFrom k (digits (take i l))
+    → ok ≡ allFrom k (digits l)
 tested-all k l i ok h e = e ∙ ap (λ t. allFrom k (digits t)) (taken l i h)
 
 -- ---- products within 2^62 and over it
@@ -46,7 +54,7 @@ within-says : (n q : ℕ) → productAs n ≡ Within q → (q ≡ n) × (q ≤ 2
 within-says n q e = go (ltb (2 ^ 62) n) refl
   where
     go : (b : Bool) → ltb (2 ^ 62) n ≡ b → (q ≡ n) × (q ≤ 2 ^ 62)
-    go true t = let z : _≡_ {A = ℕ} 0 1 = cc in absurd (omega arith)
+    go true t = clash (cc)
     go false t = let same : q ≡ n = cc in let small = ltb-false (2 ^ 62) n t in (same, omega arith)
 
 over-says : (n : ℕ) → productAs n ≡ Over → 2 ^ 62 < n
@@ -54,7 +62,7 @@ over-says n e = go (ltb (2 ^ 62) n) refl
   where
     go : (b : Bool) → ltb (2 ^ 62) n ≡ b → 2 ^ 62 < n
     go true t = ltb-true (2 ^ 62) n t
-    go false t = let z : _≡_ {A = ℕ} 0 1 = cc in absurd (omega arith)
+    go false t = clash (cc)
 
 -- a small product and a radix
 pub small-product : (m p : ℕ) → m < 256 → p ≤ 2 ^ 54 → m * p ≤ 2 ^ 62
@@ -68,23 +76,42 @@ pub divided-within : (m p : ℕ) → 0 < m → p ≤ 2 ^ 62 / m → m * p ≤ 2 
 divided-within m p pos h = rw (mul-comm m p) (le-div-iff-mul-le pos .0 h)
 
 -- ---- product_of
-size-more : (l : List ℕ) (i m p : ℕ) → i < length l → m ≡ getD l i 0 → p ≡ size (digits (take i l)) → m * p ≡ size (digits (take (i + 1) l))
+size-more : (l : List ℕ) (i m p : ℕ)
+    → i < length l
+    → m ≡ getD l i 0
+    → p ≡ size (digits (take i l))
+    → m * p ≡ size (digits (take (i + 1) l))
 unfolding size
 size-more l i m p h e f = rw (digits-more l i h, e, f)
 
-pub product-more : (l : List ℕ) (i m p q : ℕ) → i < length l → m ≡ getD l i 0 → p ≡ size (digits (take i l)) → productAs (m * p) ≡ Within q → (q ≡ size (digits (take (i + 1) l))) × (q ≤ 2 ^ 62)
+pub product-more : (l : List ℕ) (i m p q : ℕ)
+    → i < length l
+    → m ≡ getD l i 0
+    → p ≡ size (digits (take i l))
+    → productAs (m * p) ≡ Within q
+    → (q ≡ size (digits (take (i + 1) l))) × (q ≤ 2 ^ 62)
 product-more l i m p q h e f w =
     let said = within-says (m * p) q w in
     (said .0 ∙ size-more l i m p h e f, said .1)
 
-pub product-over : (l : List ℕ) (i m p : ℕ) → allFrom 2 (digits l) ≡ true → i < length l → m ≡ getD l i 0 → p ≡ size (digits (take i l)) → productAs (m * p) ≡ Over → Over ≡ productAs (size (digits l))
+pub product-over : (l : List ℕ) (i m p : ℕ)
+    → allFrom 2 (digits l) ≡ true
+    → i < length l
+    → m ≡ getD l i 0
+    → p ≡ size (digits (take i l))
+    → productAs (m * p) ≡ Over
+    → Over ≡ productAs (size (digits l))
 product-over l i m p two h e f o =
     let large = over-says (m * p) o in
     let more = size-more l i m p h e f in
     let rest = size-taken l (i + 1) (allFrom-weaker 2 1 (digits l) (omega arith) two) in
     over (size (digits l)) (omega arith)
 
-pub size-all : (l : List ℕ) (i p : ℕ) → length l ≤ i → p ≡ size (digits (take i l)) → p ≤ 2 ^ 62 → Within p ≡ productAs (size (digits l))
+pub size-all : (l : List ℕ) (i p : ℕ)
+    → length l ≤ i
+    → p ≡ size (digits (take i l))
+    → p ≤ 2 ^ 62
+    → Within p ≡ productAs (size (digits l))
 size-all l i p h e b = within p b ∙ ap productAs (e ∙ ap (λ t. size (digits t)) (taken l i h))
 
 -- ---- size
@@ -100,13 +127,20 @@ module _ (l : List ℕ) where
   unfolding sizeCall
   radix-refused e f = sym (lowest-fault-is-given (digits l) (radix (sym same-count ∙ e) (ap not f)) (given (size (digits l))))
 
-  pub size-refused : (eqb (length l) 0 || ltb 48 (length l)) ≡ false → allFrom 2 (digits l) ≡ true → productAs (size (digits l)) ≡ Over → refused 4 ≡ sizeCall l
+  pub size-refused : (eqb (length l) 0 || ltb 48 (length l)) ≡ false
+      → allFrom 2 (digits l) ≡ true
+      → productAs (size (digits l)) ≡ Over
+      → refused 4 ≡ sizeCall l
   unfolding sizeCall
   size-refused e f o =
       let over = lt-ltb (2 ^ 62) (size (digits l)) (over-says (size (digits l)) o) in
       sym (lowest-fault-is-given (digits l) (many (sym same-count ∙ e) (ap not f) over) (given (size (digits l))))
 
-  pub size-given : (n : ℕ) → (eqb (length l) 0 || ltb 48 (length l)) ≡ false → allFrom 2 (digits l) ≡ true → productAs (size (digits l)) ≡ Within n → given n ≡ sizeCall l
+  pub size-given : (n : ℕ)
+      → (eqb (length l) 0 || ltb 48 (length l)) ≡ false
+      → allFrom 2 (digits l) ≡ true
+      → productAs (size (digits l)) ≡ Within n
+      → given n ≡ sizeCall l
   unfolding sizeCall
   size-given n e f w =
       let said = within-says (size (digits l)) n w in
@@ -114,12 +148,20 @@ module _ (l : List ℕ) where
       ap given (said .0) ∙ sym (lowest-fault-is-given (digits l) (none (sym same-count ∙ e) (ap not f) small) (given (size (digits l))))
 
 -- ---- all_below
-pub below-more : (l w : List ℕ) (i : ℕ) (ok : Bool) → i < length l → length w ≡ length l → ok ≡ isWord (digits (take i l)) (digits (take i w)) → ltb (getD w i 0) (getD l i 0) && ok ≡ isWord (digits (take (i + 1) l)) (digits (take (i + 1) w))
+pub below-more : (l w : List ℕ) (i : ℕ) (ok : Bool)
+    → i < length l
+    → length w ≡ length l
+    → ok ≡ isWord (digits (take i l)) (digits (take i w))
+    → ltb (getD w i 0) (getD l i 0) && ok ≡ isWord (digits (take (i + 1) l)) (digits (take (i + 1) w))
 unfolding isWord
 below-more l w i ok h same e =
     rw (digits-more l i h, digits-more w i (omega arith)) (ap (λ t. ltb (getD w i 0) (getD l i 0) && t) e)
 
-pub below-all : (l w : List ℕ) (i : ℕ) (ok : Bool) → length l ≤ i → length w ≡ length l → ok ≡ isWord (digits (take i l)) (digits (take i w)) → ok ≡ isWord (digits l) (digits w)
+pub below-all : (l w : List ℕ) (i : ℕ) (ok : Bool)
+    → length l ≤ i
+    → length w ≡ length l
+    → ok ≡ isWord (digits (take i l)) (digits (take i w))
+    → ok ≡ isWord (digits l) (digits w)
 below-all l w i ok h same e = e ∙ ap₂ (λ t u. isWord (digits t) (digits u)) (taken l i h) (taken w i (omega arith))
 
 -- ---- rank_from
@@ -137,7 +179,10 @@ module _ (l w : List ℕ) (one : isWord (digits l) (digits w) ≡ true) where
       rw (digits-more l i h, digits-more w i (omega arith), eb, em, ea, ep)
 
   -- a rank of the slowest digits is below N, so nothing overflows
-  pub rank-small : (i : ℕ) → allFrom 2 (digits l) ≡ true → size (digits l) ≤ 2 ^ 62 → rank (digits (take i l)) (digits (take i w)) < 2 ^ 62
+  pub rank-small : (i : ℕ)
+      → allFrom 2 (digits l) ≡ true
+      → size (digits l) ≤ 2 ^ 62
+      → rank (digits (take i l)) (digits (take i w)) < 2 ^ 62
   rank-small i two limit =
       let below = rank-below (digits (take i l)) (digits (take i w)) (isWord-taken l w i one) in
       let part = size-taken l i (allFrom-weaker 2 1 (digits l) (omega arith) two) in
@@ -158,10 +203,10 @@ no-word l w n = go (isWord (digits l) (digits w)) refl
 
 pub fine-says : (b : Bool) → checkedAs b ≡ Fine → b ≡ true
 fine-says true e = refl
-fine-says false e = let z : _≡_ {A = ℕ} 0 1 = cc in absurd (omega arith)
+fine-says false e = clash (cc)
 
 pub refused-says : (b : Bool) (k : ℕ) → checkedAs b ≡ CheckRefused k → (b ≡ false) × (8 ≡ k)
-refused-says true k e = let z : _≡_ {A = ℕ} 0 1 = cc in absurd (omega arith)
+refused-says true k e = clash (cc)
 refused-says false k e = (refl, cc)
 
 module _ (l w : List ℕ) (n : ℕ) (size-is : sizeCall l ≡ given n) where

@@ -11,7 +11,8 @@ pub data Answer (A : Type 0) : Type 0 where
   given : A → Answer A
   refused : ℕ → Answer A
 
--- refusal k where its fault is there; else what the checks after it say. Checks stand in the order of document 01, so the first that applies is the lowest
+-- refusal k where its fault is there; else what the checks after it say. Checks stand in the order of document 01, so the first
+-- that applies is the lowest
 abbrev pub refusing : {A : Type 0} → ℕ → Bool → Answer A → Answer A
 refusing k fault rest = cond fault (refused k) rest
 
@@ -29,12 +30,14 @@ abbrev pub counted : Answer (List ℕ) → Answer ℕ
 counted (given bytes) = given (length bytes)
 counted (refused k) = refused k
 
--- what is in the lent memory after a writer: its bytes at the start and every byte past them as it came; all of them as they came where it refuses
+-- what is in the lent memory after a writer: its bytes at the start and every byte past them as it came; all of them as they came
+-- where it refuses
 abbrev pub written : Answer (List ℕ) → List ℕ → List ℕ
 written (given bytes) out = bytes ++ drop (length bytes) out
 written (refused k) out = out
 
--- what every writer owes: with the room that its output has, it gives the number of its bytes or the refusal, and leaves them, and nothing else, in the output
+-- what every writer owes: with the room that its output has, it gives the number of its bytes or the refusal, and leaves them,
+-- and nothing else, in the output
 pub record Wrote (call : ℕ → Answer (List ℕ)) (answer : Answer ℕ) (before after : List ℕ) : Type 0 where
   pub answers : answer ≡ counted (call (length before))
   pub leaves : after ≡ written (call (length before)) before

@@ -1,4 +1,5 @@
--- Bounds on the cost of entries: each costs what the ruler function says, entry j less than 2 j in all, and a run of d entries at most 2 d + n − 1.
+-- Bounds on the cost of entries: each costs what the ruler function says, entry j less than 2 j in all, and a run of d entries at
+-- most 2 d + n − 1.
 use Prim.Native.Nat.{ℕ, zero, suc, _+_, _-_, _*_, _/_, _%_, _≤_, _<_}
 use native.Mathlib.Nat.{div-div-eq-div-mul, div-one, div-add-mod', mod-lt, mul-le-mul-left, zero-div, eq-zero-or-pos, add-zero, le-div-iff-mul-le}
 use native.Mathlib.Omega.{arith}

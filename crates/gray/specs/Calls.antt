@@ -1,4 +1,5 @@
--- What the calls of this crate answer, in document 01's terms: the refusals in their order, and then the value. Radices and words are lent bytes, digit n first.
+-- What the calls of this crate answer, in document 01's terms: the refusals in their order, and then the value. Radices and words
+-- are lent bytes, digit n first.
 use Prim.Native.Nat.{ℕ}
 use mathlib.Core.Bool.{not}
 use mathlib.Core.List.{List}

@@ -1,4 +1,5 @@
--- The changes from each setting of the list to the next, and the ruler function that names their digits (document 004, section 10.3).
+-- The changes from each setting of the list to the next, and the ruler function that names their digits (document 004, section
+-- 10.3).
 use Prim.Native.Nat.{ℕ, suc, _-_, _/_, _%_, _<_}
 use mathlib.Core.Path.{_≡_}
 use mathlib.Core.Logic.{_⊎_}

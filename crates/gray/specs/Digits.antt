@@ -12,7 +12,7 @@ use lib.ListN.{length, getD, take, drop, take-append-drop, length-drop, length-r
 use lib.Seq.{take-suc, take-all}
 use Rattle.gray.specs.Radices.{digits, size, allFrom}
 use Rattle.gray.specs.Words.{isWord}
-use Rattle.gray.specs.Bools.{both, and-assoc}
+use Rattle.gray.specs.Bools.{clash, both, and-assoc}
 use Rattle.gray.specs.Sizes.{size-pos, allFrom-append, size-append}
 
 -- ---- the digits of a part
@@ -39,13 +39,15 @@ isWord-append (m ∷ a) (x ∷ u) b v e =
 pub isWord-length : (ms w : List ℕ) → isWord ms w ≡ true → length ms ≡ length w
 unfolding isWord
 isWord-length [] [] e = refl
-isWord-length [] (a ∷ w) e = let z : _≡_ {A = ℕ} 0 1 = cc in absurd (omega arith)
-isWord-length (m ∷ ms) [] e = let z : _≡_ {A = ℕ} 0 1 = cc in absurd (omega arith)
+isWord-length [] (a ∷ w) e = clash (cc)
+isWord-length (m ∷ ms) [] e = clash (cc)
 isWord-length (m ∷ ms) (a ∷ w) e = ap suc (isWord-length ms w (both (ltb a m) (isWord ms w) e .1))
 
 -- ---- the slowest i digits
 -- every radix is at least k: those of the first i bytes, those of the rest, and each
-pub allFrom-parts : (k : ℕ) (l : List ℕ) (i : ℕ) → allFrom k (digits l) ≡ true → (allFrom k (digits (drop i l)) ≡ true) × (allFrom k (digits (take i l)) ≡ true)
+pub allFrom-parts : (k : ℕ) (l : List ℕ) (i : ℕ)
+    → allFrom k (digits l) ≡ true
+    → (allFrom k (digits (drop i l)) ≡ true) × (allFrom k (digits (take i l)) ≡ true)
 allFrom-parts k l i e =
     both (allFrom k (digits (drop i l))) (allFrom k (digits (take i l)))
     (sym (allFrom-append k (digits (drop i l)) (digits (take i l))) ∙ ap (allFrom k) (sym (digits-split l i)) ∙ e)
@@ -65,7 +67,9 @@ size-taken l i e =
     omega arith
 
 -- the slowest i digits of a word are a word
-pub isWord-taken : (l w : List ℕ) (i : ℕ) → isWord (digits l) (digits w) ≡ true → isWord (digits (take i l)) (digits (take i w)) ≡ true
+pub isWord-taken : (l w : List ℕ) (i : ℕ)
+    → isWord (digits l) (digits w) ≡ true
+    → isWord (digits (take i l)) (digits (take i w)) ≡ true
 isWord-taken l w i e =
     let long = isWord-length (digits l) (digits w) e in
     let a = length-reverse l in

@@ -1,4 +1,5 @@
--- The reflected mixed-radix Gray code. Read the definitions first: they transcribe document 01. The theorems say what the definitions have to do with each other, and the laws are what proofs cite.
+-- The reflected mixed-radix Gray code. Read the definitions first: they transcribe document 01. The theorems say what the
+-- definitions have to do with each other, and the laws are what proofs cite.
 
 -- definitions
 pub mod Answers
@@ -15,6 +16,7 @@ pub mod Rulers
 pub mod Bounds
 pub mod Packing
 pub mod RoundTrips
+pub mod Faults
 -- laws
 pub mod Bools
 pub mod Sizes

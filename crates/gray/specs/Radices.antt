@@ -1,4 +1,5 @@
--- Radices: a survey's notch counts (document 01). Lists of the theory have digit 1 first, the fastest digit; lent bytes have digit n first.
+-- Radices: a survey's notch counts (document 01). Lists of the theory have digit 1 first, the fastest digit; lent bytes have
+-- digit n first.
 use Prim.Native.Nat.{ℕ, _*_, _^_}
 use mathlib.Core.Bool.{Bool, true, _&&_, _||_, not}
 use mathlib.Core.List.{List, [], _∷_, reverse}

@@ -12,7 +12,7 @@ use Rattle.gray.specs.Radices.{size}
 use Rattle.gray.specs.Words.{even, member, isWord, reflect, rank}
 use Rattle.gray.specs.Members.{wordAt, member-is-wordAt}
 use Rattle.gray.specs.Sizes.{quotient-below, first-pos}
-use Rattle.gray.specs.Bools.{both}
+use Rattle.gray.specs.Bools.{clash, both}
 
 -- ---- one digit: to reflect is to keep it below its radix, and twice is to leave it
 cond-below : (m a : ℕ) (b : Bool) → a < m → cond b a (m - 1 - a) < m
@@ -51,7 +51,7 @@ wordAt-is-word (m ∷ ms) r h =
 pub rank-below : (ms w : List ℕ) → isWord ms w ≡ true → rank ms w < size ms
 unfolding isWord rank size
 rank-below [] w e = omega arith
-rank-below (m ∷ ms) [] e = let z : _≡_ {A = ℕ} 0 1 = cc in absurd (omega arith)
+rank-below (m ∷ ms) [] e = clash (cc)
 rank-below (m ∷ ms) (a ∷ w) e =
     let (first, others) = both (ltb a m) (isWord ms w) e in
     rw
@@ -61,8 +61,8 @@ rank-below (m ∷ ms) (a ∷ w) e =
 pub wordAt-of-rank : (ms w : List ℕ) → isWord ms w ≡ true → wordAt ms (rank ms w) ≡ w
 unfolding isWord rank wordAt
 wordAt-of-rank [] [] e = refl
-wordAt-of-rank [] (a ∷ w) e = let z : _≡_ {A = ℕ} 0 1 = cc in absurd (omega arith)
-wordAt-of-rank (m ∷ ms) [] e = let z : _≡_ {A = ℕ} 0 1 = cc in absurd (omega arith)
+wordAt-of-rank [] (a ∷ w) e = clash (cc)
+wordAt-of-rank (m ∷ ms) [] e = clash (cc)
 wordAt-of-rank (m ∷ ms) (a ∷ w) e =
     let (first, others) = both (ltb a m) (isWord ms w) e in
     let below : a < m = ltb-true a m first in

@@ -1,4 +1,5 @@
--- Laws for a call that checks its radices by `size`: what it passes on where they are refused, and what it knows where they are accepted.
+-- Laws for a call that checks its radices by `size`: what it passes on where they are refused, and what it knows where they are
+-- accepted.
 use Prim.Native.Nat.{ℕ, _^_, _≤_, _<_}
 use native.Mathlib.Omega.{arith}
 use mathlib.Core.Path.{_≡_, refl, sym, ap, _∙_}
@@ -12,57 +13,34 @@ use Rattle.gray.specs.Radices.{digits, size, allFrom, wrongCount, wrongR
 use Rattle.gray.specs.Calls.{countedAs, sizeCall}
 use Rattle.gray.specs.declared.Counted.{Counted}
 use Rattle.gray.specs.declared.Counted.the-variants.{Refused}
-use Rattle.gray.specs.Bools.{neither}
-
--- ---- the lowest fault that applies
--- what is wrong with radices, if anything: a fault of document 01, and that no lower one applies
-pub data Fault (ms : List ℕ) : Type 0 where
-  count : wrongCount ms ≡ true → Fault ms
-  radix : wrongCount ms ≡ false → wrongRadix ms ≡ true → Fault ms
-  many : wrongCount ms ≡ false → wrongRadix ms ≡ false → tooMany ms ≡ true → Fault ms
-  none : wrongCount ms ≡ false → wrongRadix ms ≡ false → tooMany ms ≡ false → Fault ms
-
-pub fault : (ms : List ℕ) → Fault ms
-fault ms = go (wrongCount ms) (wrongRadix ms) (tooMany ms) refl refl refl
-  where
-    go : (a b c : Bool) → wrongCount ms ≡ a → wrongRadix ms ≡ b → tooMany ms ≡ c → Fault ms
-    go true b c e f g = count e
-    go false true c e f g = radix e f
-    go false false true e f g = many e f g
-    go false false false e f g = none e f g
-
-abbrev pub decided : {A : Type 0} {ms : List ℕ} → Fault ms → Answer A → Answer A
-decided (count e) rest = refused 2
-decided (radix e f) rest = refused 3
-decided (many e f g) rest = refused 4
-decided (none e f g) rest = rest
-
--- radices get the number of the lowest fault that applies, and what has no fault is not refused
-pub lowest-fault-is-given : {A : Type 0} (ms : List ℕ) (f : Fault ms) (rest : Answer A) → ofRadices ms rest ≡ decided f rest
-lowest-fault-is-given ms (count e) rest = rw e
-lowest-fault-is-given ms (radix e f) rest = rw (e, f)
-lowest-fault-is-given ms (many e f g) rest = rw (e, f, g)
-lowest-fault-is-given ms (none e f g) rest = rw (e, f, g)
+use Rattle.gray.specs.Bools.{clash, neither}
+use Rattle.gray.specs.Faults.{Fault, Fault.count, Fault.radix, Fault.many, Fault.none, fault, decided, lowest-fault-is-given}
 
 -- ---- radices that are refused, and radices that are accepted
 pub given-same : {A : Type 0} (a b : A) → given a ≡ given b → a ≡ b
 given-same a b e = cc
 
-same-refusal : {A : Type 0} {ms : List ℕ} (f : Fault ms) (n k : ℕ) (rest : Answer A) → decided f (given n) ≡ refused k → decided f rest ≡ refused k
+same-refusal : {A : Type 0} {ms : List ℕ} (f : Fault ms) (n k : ℕ) (rest : Answer A)
+    → decided f (given n) ≡ refused k
+    → decided f rest ≡ refused k
 same-refusal (count e) n k rest p = let t : 2 ≡ k = cc in ap refused t
 same-refusal (radix e f) n k rest p = let t : 3 ≡ k = cc in ap refused t
 same-refusal (many e f g) n k rest p = let t : 4 ≡ k = cc in ap refused t
-same-refusal (none e f g) n k rest p = let z : _≡_ {A = ℕ} 0 1 = cc in absurd (omega arith)
+same-refusal (none e f g) n k rest p = clash (cc)
 
-pub radices-refused : {A : Type 0} (l : List ℕ) (k : ℕ) (rest : Answer A) → sizeCall l ≡ refused k → ofRadices (digits l) rest ≡ refused k
+pub radices-refused : {A : Type 0} (l : List ℕ) (k : ℕ) (rest : Answer A)
+    → sizeCall l ≡ refused k
+    → ofRadices (digits l) rest ≡ refused k
 unfolding sizeCall
 radices-refused l k rest e =
     let f = fault (digits l) in
     lowest-fault-is-given (digits l) f rest ∙ same-refusal f (size (digits l)) k rest (sym (lowest-fault-is-given (digits l) f (given (size (digits l)))) ∙ e)
 
 -- a check that lets a value through was passed
-pub passed : {A : Type 0} (k : ℕ) (wrong : Bool) (rest : Answer A) (a : A) → refusing k wrong rest ≡ given a → (wrong ≡ false) × (rest ≡ given a)
-passed k true rest a e = let z : _≡_ {A = ℕ} 0 1 = cc in absurd (omega arith)
+pub passed : {A : Type 0} (k : ℕ) (wrong : Bool) (rest : Answer A) (a : A)
+    → refusing k wrong rest ≡ given a
+    → (wrong ≡ false) × (rest ≡ given a)
+passed k true rest a e = clash (cc)
 passed k false rest a e = (refl, e)
 
 -- radices with which a call gives a value have no fault
@@ -73,9 +51,9 @@ pub record Faultless {A : Type 0} (ms : List ℕ) (rest : Answer A) (a : A) : Ty
   pub value : rest ≡ given a
 
 no-fault : {A : Type 0} {ms : List ℕ} (f : Fault ms) (rest : Answer A) (a : A) → decided f rest ≡ given a → Faultless ms rest a
-no-fault (count e) rest a p = let z : _≡_ {A = ℕ} 0 1 = cc in absurd (omega arith)
-no-fault (radix e f) rest a p = let z : _≡_ {A = ℕ} 0 1 = cc in absurd (omega arith)
-no-fault (many e f g) rest a p = let z : _≡_ {A = ℕ} 0 1 = cc in absurd (omega arith)
+no-fault (count e) rest a p = clash (cc)
+no-fault (radix e f) rest a p = clash (cc)
+no-fault (many e f g) rest a p = clash (cc)
 no-fault (none e f g) rest a p = record { no-count = e; no-radix = f; no-many = g; value = p }
 
 pub faultless : {A : Type 0} (ms : List ℕ) (rest : Answer A) (a : A) → ofRadices ms rest ≡ given a → Faultless ms rest a
@@ -106,14 +84,18 @@ accepted l n e =
       limit = ltb-false (2 ^ 62) (size (digits l)) (p .no-many);
     }
 
-pub radices-accepted : {A : Type 0} (l : List ℕ) (n : ℕ) (rest : Answer A) → sizeCall l ≡ given n → ofRadices (digits l) rest ≡ rest
+pub radices-accepted : {A : Type 0} (l : List ℕ) (n : ℕ) (rest : Answer A)
+    → sizeCall l ≡ given n
+    → ofRadices (digits l) rest ≡ rest
 unfolding sizeCall
 radices-accepted l n rest e =
     let p = faultless (digits l) (given (size (digits l))) n e in
     rw (p .no-count, p .no-radix, p .no-many)
 
 -- a call that gives a value has accepted its radices
-pub radices-passed : {A : Type 0} (l : List ℕ) (rest : Answer A) (x : A) → ofRadices (digits l) rest ≡ given x → (sizeCall l ≡ given (size (digits l))) × (rest ≡ given x)
+pub radices-passed : {A : Type 0} (l : List ℕ) (rest : Answer A) (x : A)
+    → ofRadices (digits l) rest ≡ given x
+    → (sizeCall l ≡ given (size (digits l))) × (rest ≡ given x)
 unfolding sizeCall
 radices-passed l rest x e =
     let p = faultless (digits l) rest x e in
@@ -131,7 +113,9 @@ passed-on l rest o x number e f g =
 
 -- ---- a writer
 -- what a writer that refuses owes, and one that has put its bytes at the start
-pub wrote-nothing : (call : ℕ → Answer (List ℕ)) (k : ℕ) (out : List ℕ) → call (length out) ≡ refused k → Wrote call (refused k) out out
+pub wrote-nothing : (call : ℕ → Answer (List ℕ)) (k : ℕ) (out : List ℕ)
+    → call (length out) ≡ refused k
+    → Wrote call (refused k) out out
 wrote-nothing call k out e =
     record { answers = sym (ap counted e); leaves = sym (ap (λ a. written a out) e) }
 

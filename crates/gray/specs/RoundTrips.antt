@@ -1,7 +1,7 @@
--- The two calls undo one another: the rank of what `word` writes is the rank that it was given, and what `word` writes for the rank of a setting is the setting.
+-- The two calls undo one another: the rank of what `word` writes is the rank that it was given, and what `word` writes for the
+-- rank of a setting is the setting.
 use Prim.Native.Nat.{ℕ, _≤_, _<_}
-use native.Mathlib.Omega.{arith}
-use mathlib.Core.Path.{_≡_, refl, sym, ap, _∙_}
+use mathlib.Core.Path.{_≡_, sym, ap, _∙_}
 use mathlib.Core.Bool.{true, not}
 use mathlib.Core.List.{List, reverse-reverse}
 use borrow.Author.Tests.{leb-false, le-ltb, lt-leb, not-false}
@@ -10,7 +10,7 @@ use lib.ListN.{length}
 use Rattle.gray.specs.Answers.{given, refusing, fitting}
 use Rattle.gray.specs.Radices.{digits, bytes, size}
 use Rattle.gray.specs.Words.{member, isWord, rank}
-use Rattle.gray.specs.Calls.{sizeCall, rankCall, wordCall}
+use Rattle.gray.specs.Calls.{rankCall, wordCall}
 use Rattle.gray.specs.Ranks.{rank-of-member, member-of-rank}
 use Rattle.gray.specs.Refusals.{given-same, passed, radices-passed, radices-accepted}
 
@@ -21,7 +21,8 @@ rank-of-written l w r room e =
     let ms = digits l in
     let (size-is, rest) = radices-passed l (refusing 8 (leb (size ms) r) (fitting room (bytes (member ms r)))) w e in
     let (below, fits) = passed 8 (leb (size ms) r) (fitting room (bytes (member ms r))) w rest in
-    let same : bytes (member ms r) ≡ w = given-same (bytes (member ms r)) w (passed 9 (ltb room (length (bytes (member ms r)))) (given (bytes (member ms r))) w fits .1) in
+    let (roomy, written) = passed 9 (ltb room (length (bytes (member ms r)))) (given (bytes (member ms r))) w fits in
+    let same : bytes (member ms r) ≡ w = given-same (bytes (member ms r)) w written in
     let back : digits w ≡ member ms r = ap digits (sym same) ∙ reverse-reverse (member ms r) in
     let (one, at) = rank-of-member ms r (leb-false (size ms) r below) in
     radices-accepted l (size ms) (refusing 8 (not (isWord ms (digits w))) (given (rank ms (digits w)))) size-is

@@ -41,7 +41,9 @@ descends-moves m ms j b e =
     rw part
 
 -- ---- one move
-one-digit : (m b : ℕ) (w : List ℕ) (e : Bool) → suc b < m → Moves 1 (not e) (cond e b (m - 1 - b) ∷ w) (cond e (suc b) (m - 1 - suc b) ∷ w)
+one-digit : (m b : ℕ) (w : List ℕ) (e : Bool)
+    → suc b < m
+    → Moves 1 (not e) (cond e b (m - 1 - b) ∷ w) (cond e (suc b) (m - 1 - suc b) ∷ w)
 one-digit m b w true h = up
 one-digit m b w false h = let e : m - 1 - b ≡ suc (m - 1 - suc b) = omega arith in rw e down
 
@@ -64,7 +66,9 @@ rest-moves m ms j (turns q b whole) slower =
     (ruler-turns m ms (suc j) b, descends-turns m ms (suc j) b, q, b, still)
     (next (slower q))
 
-pub wordAt-moves : (ms : List ℕ) (j : ℕ) → suc j < size ms → Moves (ruler ms (suc j)) (descends ms (suc j)) (wordAt ms j) (wordAt ms (suc j))
+pub wordAt-moves : (ms : List ℕ) (j : ℕ)
+    → suc j < size ms
+    → Moves (ruler ms (suc j)) (descends ms (suc j)) (wordAt ms j) (wordAt ms (suc j))
 wordAt-moves [] j h = absurd (unfold size in omega arith)
 wordAt-moves (m ∷ ms) j h =
     rest-moves m ms j
@@ -84,7 +88,8 @@ moves-within (down {a} {w}) = omega arith
 moves-within (next p) = let h = moves-within p in omega arith
 
 -- ---- the list
--- change j + 1 is a move of the digit that the ruler function names, in the direction that the rank of the slower digits gives; members j and j + 1 differ by that move and by nothing else
+-- change j + 1 is a move of the digit that the ruler function names, in the direction that the rank of the slower digits gives;
+-- members j and j + 1 differ by that move and by nothing else
 pub change-is-ruler : (ms : List ℕ) (j : ℕ) → suc j < size ms
     → (change ms (suc j) ≡ record { digit = ruler ms (suc j); down = descends ms (suc j) })
     × (Moves (ruler ms (suc j)) (descends ms (suc j)) (member ms j) (member ms (suc j)))
@@ -102,7 +107,11 @@ others-same : (a b : ℕ) (w : List ℕ) (o : ℕ) → (o ≡ 0 → ⊥) → get
 others-same a b w zero n = absurd (n refl)
 others-same a b w (suc o) n = refl
 
-next-same : (a : ℕ) (u v : List ℕ) (i : ℕ) → ((o : ℕ) → (o ≡ i → ⊥) → getD v o 0 ≡ getD u o 0) → (o : ℕ) → (o ≡ suc i → ⊥) → getD (a ∷ v) o 0 ≡ getD (a ∷ u) o 0
+next-same : (a : ℕ) (u v : List ℕ) (i : ℕ)
+    → ((o : ℕ) → (o ≡ i → ⊥) → getD v o 0 ≡ getD u o 0)
+    → (o : ℕ)
+    → (o ≡ suc i → ⊥)
+    → getD (a ∷ v) o 0 ≡ getD (a ∷ u) o 0
 next-same a u v i same zero n = refl
 next-same a u v i same (suc o) n = same o (λ e. n (ap suc e))
 
@@ -121,7 +130,9 @@ moves-apart (next {a = a} {u = u} {v = v} p) =
     )
 
 -- members j and j + 1 differ in exactly one digit, by one
-pub neighbours-differ-once : (ms : List ℕ) (j : ℕ) → suc j < size ms → (i : ℕ) × (ruler ms (suc j) ≡ suc i) × OneApart i (member ms j) (member ms (suc j))
+pub neighbours-differ-once : (ms : List ℕ) (j : ℕ)
+    → suc j < size ms
+    → (i : ℕ) × (ruler ms (suc j) ≡ suc i) × OneApart i (member ms j) (member ms (suc j))
 neighbours-differ-once ms j h = moves-apart (change-is-ruler ms j h .1)
 
 -- the ruler function at N is n + 1: the entry that ends a walk
@@ -151,7 +162,11 @@ divides-product j m P pos posP =
     (λ z. (omega arith, omega arith), λ h. let t = ap (λ (n : ℕ). n * m) (h .1) in let f = h .0 in omega arith)
 
 -- m_1 .. m_i divides j exactly if i is below the ruler function of j
-pub ruler-divides : (ms : List ℕ) → allFrom 1 ms ≡ true → (j i : ℕ) → i ≤ length ms → (i < ruler ms j) ↔ (j % size (take i ms) ≡ 0)
+pub ruler-divides : (ms : List ℕ)
+    → allFrom 1 ms ≡ true
+    → (j i : ℕ)
+    → i ≤ length ms
+    → (i < ruler ms j) ↔ (j % size (take i ms) ≡ 0)
 unfolding allFrom size
 ruler-divides [] e j zero h = (λ l. mod-one j, λ z. ruler-pos [] j)
 ruler-divides [] e j (suc i) h = absurd (omega arith)

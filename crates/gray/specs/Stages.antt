@@ -2,11 +2,12 @@
 use Prim.Native.Nat.{ℕ, _^_, _≤_}
 use mathlib.Core.Path.{_≡_}
 use mathlib.Core.Bool.{Bool, true, cond}
-use mathlib.Core.List.{List}
+use mathlib.Core.List.{List, _++_}
 use lib.Dec.{ltb}
-use lib.ListN.{length}
-use Rattle.gray.specs.Radices.{digits, size, allFrom}
+use lib.ListN.{length, drop}
+use Rattle.gray.specs.Radices.{digits, bytes, size, allFrom}
 use Rattle.gray.specs.Words.{isWord}
+use Rattle.gray.specs.Members.{wordAt}
 use Rattle.gray.specs.declared.Product.{Product}
 use Rattle.gray.specs.declared.Product.the-variants.{Within, Over}
 use Rattle.gray.specs.declared.Checked.{Checked}
@@ -34,3 +35,7 @@ pub record Rankable (radices word : List ℕ) : Type 0 where
 pub record Room (radices out : List ℕ) : Type 0 where
   pub two : allFrom 2 (digits radices) ≡ true
   pub room : length radices ≤ length out
+
+-- the output with the word of rank r at its start, and every byte past it as it was
+abbrev pub putWord : List ℕ → ℕ → List ℕ → List ℕ
+putWord radices r out = bytes (wordAt (digits radices) r) ++ drop (length radices) out

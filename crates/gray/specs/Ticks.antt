@@ -1,4 +1,5 @@
--- What happens to the quotient and the remainder of a rank by a radix when the rank grows by one: the remainder grows, or it starts again and the quotient grows.
+-- What happens to the quotient and the remainder of a rank by a radix when the rank grows by one: the remainder grows, or it
+-- starts again and the quotient grows.
 use Prim.Native.Nat.{ℕ, suc, _+_, _*_, _/_, _%_, _<_}
 use native.Mathlib.Nat.{div-add-mod', mod-lt}
 use native.Mathlib.Decide.{decLt, ℕ-discrete}

@@ -1,4 +1,5 @@
--- The list of settings and the rank of a setting, as document 01 defines them. A word is a setting; like radices, its list has digit 1 first.
+-- The list of settings and the rank of a setting, as document 01 defines them. A word is a setting; like radices, its list has
+-- digit 1 first.
 use Prim.Native.Nat.{ℕ, zero, suc, _+_, _-_, _*_, _%_}
 use mathlib.Core.Bool.{Bool, true, false, cond, _&&_}
 use mathlib.Core.List.{List, [], _∷_, _++_, map}
@@ -17,7 +18,8 @@ unfoldable pub downward : ℕ → List ℕ
 downward zero = []
 downward (suc m) = m ∷ downward m
 
--- the words of `slower`, whose ranks are r, r + 1, .., each with every notch below m for one digit more: upward after one of even rank, downward after one of odd rank. The faster digit stands in front
+-- the words of `slower`, whose ranks are r, r + 1, .., each with every notch below m for one digit more: upward after one of even
+-- rank, downward after one of odd rank. The faster digit stands in front
 unfoldable pub through : ℕ → ℕ → List (List ℕ) → List (List ℕ)
 through m r [] = []
 through m r (c ∷ slower) = map (λ a. a ∷ c) (cond (even r) (upward m) (downward m)) ++ through m (suc r) slower

@@ -3,23 +3,22 @@
 
 ghost use mathlib.Core.Path.{_≡_};
 ghost use mathlib.Core.Bool.{true};
-ghost use Prim.Native.Nat.{_^_, _*_, _+_, _-_, _≤_, _<_};
-ghost use lib.ListN.{length, drop};
-ghost use mathlib.Core.List.{_++_};
+ghost use Prim.Native.Nat.{_^_, _*_, _≤_, _<_};
+ghost use lib.ListN.{length};
 ghost use Rattle.gray.specs.Answers.{numberOf, Wrote};
-ghost use Rattle.gray.specs.Radices.{digits, bytes, size as sizeOf, allFrom};
+ghost use Rattle.gray.specs.Radices.{digits, size as sizeOf, allFrom};
 ghost use Rattle.gray.specs.Words.{reflect as reflected, isWord, rank as rankOf};
-ghost use Rattle.gray.specs.Members.{wordAt};
 ghost use Rattle.gray.specs.MoveBytes.{moveByte, moveDigit, moveDown};
 ghost use Rattle.gray.specs.Calls.{countedAs, rankedAs, writtenAs, sizeCall, rankCall, wordCall};
-ghost use Rattle.gray.specs.Stages.{productAs, checkedAs, checkNumber, Rankable, Room};
+ghost use Rattle.gray.specs.Stages.{productAs, checkedAs, checkNumber, Rankable, Room, putWord};
 
-// The number of words of a mixed-radix system.
+// What `size` answers: N, the number of words (settings) of a mixed-radix system (a survey).
 pub enum Counted {
     Size(u64),
     Refused(u8),
 }
 
+// What `rank` answers: the place of a word in the list, from 0.
 pub enum Ranked {
     Rank(u64),
     Refused(u8),
@@ -37,7 +36,7 @@ enum Product {
     Over,
 }
 
-// Whether a setting passes its check.
+// Whether a word passes its check.
 enum Checked {
     Fine,
     Refused(u8),
@@ -71,12 +70,14 @@ impl Checked {
     }
 }
 
+// The bound spares callers a fact about the byte that they read.
 fn wide(x: u8) -> u64
     ensures { λ r. ⌜ (r ≡ x) × (r < 256) ⌝ }
 {
     x as u64
 }
 
+// The test is gathered over all bytes, with no way out in between, so that the loop can run on vectors.
 fn all_two(radices: &[u8]) -> bool
     ensures { λ r. ⌜ r ≡ allFrom 2 (digits (now (radices .entry))) ⌝ }
 {
@@ -119,6 +120,7 @@ fn product_of(radices: &[u8]) -> Product
     Product::Within(p)
 }
 
+// N, the product of the radices (a survey's notch counts), once they have passed refusals 2, 3 and 4.
 pub fn size(radices: &[u8]) -> Counted
     ensures { λ r. ⌜ countedAs r ≡ sizeCall (now (radices .entry)) ⌝ }
 {
@@ -157,7 +159,7 @@ fn all_below(radices: &[u8], word: &[u8]) -> bool
     ok
 }
 
-// Refusal 8 of a setting.
+// Refusal 8 of a word (a setting).
 fn check_word(radices: &[u8], word: &[u8]) -> Checked
     ensures { λ r. ⌜ r ≡ checkedAs (isWord (digits (now (radices .entry))) (digits (now (word .entry)))) ⌝ }
 {
@@ -187,6 +189,7 @@ fn rank_from(radices: &[u8], word: &[u8]) -> u64
     p
 }
 
+// The rank of a word: first it is tested, then ranked.
 pub fn rank(radices: &[u8], word: &[u8]) -> Ranked
     ensures { λ r. ⌜ rankedAs r ≡ rankCall (now (radices .entry)) (now (word .entry)) ⌝ }
 {
@@ -204,7 +207,7 @@ pub fn rank(radices: &[u8], word: &[u8]) -> Ranked
 // The digits from the fastest on: each is a remainder, and the quotient is the rank of the slower ones.
 fn put_word(radices: &[u8], rank: u64, out: &mut [u8])
     requires { ⌜ Room (now radices) (now out) ⌝ }
-    ensures { λ _. ⌜ now (out .exit) ≡ bytes (wordAt (digits (now (radices .entry))) rank) ++ drop (length (now (radices .entry))) (now (out .entry)) ⌝ }
+    ensures { λ _. ⌜ now (out .exit) ≡ putWord (now (radices .entry)) rank (now (out .entry)) ⌝ }
 {
     let mut q = rank;
     let mut i = radices.len();
@@ -217,6 +220,7 @@ fn put_word(radices: &[u8], rank: u64, out: &mut [u8])
     }
 }
 
+// The word of a rank, at the start of `out`.
 pub fn word(radices: &[u8], rank: u64, out: &mut [u8]) -> Written
     ensures { λ r. ⌜ Wrote (wordCall (now (radices .entry)) rank) (writtenAs r) (now (out .entry)) (now (out .exit)) ⌝ }
 {

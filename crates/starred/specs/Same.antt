@@ -4,10 +4,9 @@ use mathlib.Core.Path.{_≡_, refl, ap, ap₂}
 use mathlib.Core.Bool.{Bool, true, false, _&&_}
 use mathlib.Core.List.{List, [], _∷_}
 use borrow.Author.Tests.{eqb-true}
-use native.Mathlib.Omega.{arith}
 use lib.Dec.{eqb}
 use Rattle.gray.specs.Answers.{Answer, given, refused}
-use Rattle.gray.specs.Bools.{both}
+use Rattle.gray.specs.Bools.{clash, both}
 
 -- a test of equality
 pub record Test (A : Type 0) : Type 0 where
@@ -26,8 +25,8 @@ module _ {A : Type 0} (t : Test A) where
 
   pub showsList : (l m : List A) → sameList l m ≡ true → l ≡ m
   showsList [] [] e = refl
-  showsList [] (b ∷ m) e = let z : _≡_ {A = ℕ} 0 1 = cc in absurd (omega arith)
-  showsList (a ∷ l) [] e = let z : _≡_ {A = ℕ} 0 1 = cc in absurd (omega arith)
+  showsList [] (b ∷ m) e = clash (cc)
+  showsList (a ∷ l) [] e = clash (cc)
   showsList (a ∷ l) (b ∷ m) e =
       let (first, others) = both (t .same a b) (sameList l m) e in
       ap₂ (λ x y. x ∷ y) (t .shows a b first) (showsList l m others)
@@ -40,8 +39,8 @@ module _ {A : Type 0} (t : Test A) where
 
   pub showsAnswer : (x y : Answer A) → sameAnswer x y ≡ true → x ≡ y
   showsAnswer (given a) (given b) e = ap given (t .shows a b e)
-  showsAnswer (given a) (refused k) e = let z : _≡_ {A = ℕ} 0 1 = cc in absurd (omega arith)
-  showsAnswer (refused j) (given b) e = let z : _≡_ {A = ℕ} 0 1 = cc in absurd (omega arith)
+  showsAnswer (given a) (refused k) e = clash (cc)
+  showsAnswer (refused j) (given b) e = clash (cc)
   showsAnswer (refused j) (refused k) e = ap refused (eqb-true j k e)
 
   abbrev pub lists : Test (List A)

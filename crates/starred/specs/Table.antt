@@ -1,4 +1,5 @@
--- Document 01's starred cases: the table, one test computed over all of it, and the theorem that carries it to each row. Radices and words are written as there, digit n first.
+-- Document 01's starred cases: the table, one test computed over all of it, and the theorem that carries it to each row. Radices
+-- and words are written as there, digit n first.
 use Prim.Native.Nat.{ℕ, zero, suc, _^_, _<_}
 use native.Mathlib.Omega.{arith}
 use mathlib.Core.Path.{_≡_, refl}

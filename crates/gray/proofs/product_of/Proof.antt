@@ -1,4 +1,5 @@
--- `gray::product_of` meets its contract: after i turns p is the product of the slowest i radices, and within 2^62. Assumes nothing.
+-- `gray::product_of` meets its contract: after i turns p is the product of the slowest i radices, and within 2^62. Assumes
+-- nothing.
 use Prim.Native.Nat.{_≤_, _-_, _^_}
 use mathlib.Core.Path.{_≡_, refl, sym, _∙_}
 use native.Mathlib.Omega.{arith}
@@ -28,7 +29,8 @@ wide-requires c κs = search needs
 times-requires : tie.Need-times-requires Inv-loop μ-loop
 times-requires c κs =
     let turn = c .before .before in
-    let least = radix-from 2 (turn .before .before .before .args .radices .now) (turn .before .loop .i) (turn .loop-test .taken) (turn .before .before .before .pre) in
+    let start = turn .before .before .before in
+    let least = radix-from 2 (start .args .radices .now) (turn .before .loop .i) (turn .loop-test .taken) (start .pre) in
     let byte = c .wide .ensures .0 in
     (turn .before .loop .inv .1 .1, omega arith, c .wide .ensures .1)
 

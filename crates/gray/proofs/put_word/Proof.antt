@@ -1,4 +1,5 @@
--- `gray::put_word` meets its contract: with i digits to go, their word at the quotient q and the bytes from i on make up the output that is owed. Assumes nothing.
+-- `gray::put_word` meets its contract: with i digits to go, their word at the quotient q and the bytes from i on make up the
+-- output that is owed. Assumes nothing.
 use Prim.Native.Nat.{_≤_, _<_, _-_, _/_, _%_}
 use mathlib.Core.Path.{_≡_, refl, ap}
 use mathlib.Core.List.{_++_}
@@ -99,7 +100,10 @@ same-length : tie.Need-same-length Inv-loop μ-loop
 same-length c = c .before .loop .inv .1
 
 returns : tie.Need-returns Inv-loop μ-loop
-returns c = put-all (c .before .before .before .before .args .radices .now) _ _ (c .before .loop .i) (c .before .loop .q) (c .loop-test .left) (c .before .loop .inv .2)
+returns c =
+    let at = c .before in
+    let start = at .before .before .before in
+    put-all (start .args .radices .now) _ _ (at .loop .i) (at .loop .q) (c .loop-test .left) (at .loop .inv .2)
 
 pub put-word-spec : {M : Type 1} → statement M
 put-word-spec =

@@ -1,4 +1,5 @@
--- `gray::rank` meets its contract: a stage that refuses passes its number on, and what passes every stage has its rank. Assumes nothing.
+-- `gray::rank` meets its contract: a stage that refuses passes its number on, and what passes every stage has its rank. Assumes
+-- nothing.
 use mathlib.Core.Path.{_≡_, sym, ap, _∙_}
 use Rattle.gray.specs.Answers.{given}
 use Rattle.gray.specs.Calls.{countedAs, sizeCall, rankCall}
@@ -10,10 +11,13 @@ use Rattle.gray.proofs.rank.Statement.{statement}
 use Rattle.gray.proofs.rank.Tie as tie
 
 -- what has been learnt once the radices are accepted, and once the word is
-size-is : (c : tie.After-check-word) → sizeCall (c .before .before .before .before .before .before .args .radices .now) ≡ given (c .before .enum-told .given .0 .0)
+size-is : (c : tie.After-check-word)
+    → sizeCall (c .before .before .before .before .before .before .args .radices .now) ≡ given (c .before .enum-told .given .0 .0)
 size-is c = sym (c .before .before .before .size .ensures) ∙ ap countedAs (c .before .enum-told .given .1)
 
-rankable : (c : tie.After-enum-told3) → Rankable (c .before .before .before .before .before .before .before .before .args .radices .now) (c .before .before .before .before .before .before .before .before .args .word .now)
+rankable : (c : tie.After-enum-told3)
+    → let start = c .before .before .before .before .before .before .before .before in
+    Rankable (start .args .radices .now) (start .args .word .now)
 rankable c =
     let sized = accepted _ _ (size-is (c .before .before)) in
     record {

@@ -55,7 +55,12 @@ ranked c =
     let start = turn .before .before .before .before in
     let l = start .args .radices .now in
     let w = start .args .word .now in
-    let same = rank-more l w (start .pre .one) (turn .before .loop .i) _ _ _ _ (turn .loop-test .taken) (c .before .before .before .wide .ensures .0) (c .before .wide2 .ensures .0) (turn .before .loop .inv .1) (c .reflect .ensures) in
+    let same = rank-more l w (start .pre .one) (turn .before .loop .i) _ _ _ _
+    (turn .loop-test .taken)
+    (c .before .before .before .wide .ensures .0)
+    (c .before .wide2 .ensures .0)
+    (turn .before .loop .inv .1)
+    (c .reflect .ensures) in
     let small = rank-small l w (start .pre .one) (turn .before .loop .i + 1) (start .pre .two) (start .pre .limit) in
     (same, rw same small)
 

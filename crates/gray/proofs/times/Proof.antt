@@ -1,4 +1,5 @@
--- `gray::times` meets its contract: the division, or the bound on a small product, tells whether the product is over. Assumes nothing.
+-- `gray::times` meets its contract: the division, or the bound on a small product, tells whether the product is over. Assumes
+-- nothing.
 use borrow.Author.Needs.{needs}
 use native.Mathlib.Omega.{arith}
 use Rattle.gray.proofs.Laws.{within, over, small-product, divided-over, divided-within}

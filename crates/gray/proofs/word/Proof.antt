@@ -1,4 +1,5 @@
--- `gray::word` meets its contract: a stage that refuses leaves the output as it came, and what passes every stage has its word's bytes there. Assumes nothing.
+-- `gray::word` meets its contract: a stage that refuses leaves the output as it came, and what passes every stage has its word's
+-- bytes there. Assumes nothing.
 use mathlib.Core.Path.{_≡_, sym, ap, _∙_}
 use Rattle.gray.specs.Answers.{given}
 use Rattle.gray.specs.Radices.{digits, bytes}
@@ -10,7 +11,8 @@ use borrow.Author.Needs.{needs}
 use Rattle.gray.proofs.word.Statement.{statement}
 use Rattle.gray.proofs.word.Tie as tie
 
-size-is : (c : tie.After-known-told) → sizeCall (c .before .before .before .before .before .before .args .radices .now) ≡ given (c .before .counted .given .0 .0)
+size-is : (c : tie.After-known-told)
+    → sizeCall (c .before .before .before .before .before .before .args .radices .now) ≡ given (c .before .counted .given .0 .0)
 size-is c = sym (c .before .before .before .size .ensures) ∙ ap countedAs (c .before .counted .given .1)
 
 size-requires : tie.Need-size-requires
