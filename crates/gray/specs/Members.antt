@@ -10,7 +10,7 @@ use mathlib.Core.List.{List, [], _∷_, _++_, map}
 use lib.ListN.{length, getD, length-append, length-map, List·getD-append}
 use lib.Seq.{getD-at, getD-append-add}
 use Rattle.gray.specs.Radices.{size}
-use Rattle.gray.specs.Words.{even, upward, downward, through, list, member, reflect}
+use Rattle.gray.specs.Words.{even, upward, downward, notches, through, list, member, reflect}
 use Rattle.gray.specs.Sizes.{pos-of-lt-mul, quotient-below}
 
 -- digit 1 of the word of rank r, and then the word of rank r / m of the slower digits
@@ -49,13 +49,21 @@ getD-downward zero i h = absurd (omega arith)
 getD-downward (suc m) zero h = omega arith
 getD-downward (suc m) (suc i) h = let ih = getD-downward m i (omega arith) in omega arith
 
-length-run : (m : ℕ) (b : Bool) → length (cond b (upward m) (downward m)) ≡ m
-length-run m true = length-upward m
-length-run m false = length-downward m
+getD-notches : (m r i : ℕ) → i < m → getD (notches m r) i 0 ≡ reflect m r i
+unfolding notches
+getD-notches m r i h = go (even r)
+  where
+    go : (b : Bool) → getD (cond b (upward m) (downward m)) i 0 ≡ cond b i (m - 1 - i)
+    go true = getD-upward m i h
+    go false = getD-downward m i h
 
-getD-run : (m i : ℕ) (b : Bool) → i < m → getD (cond b (upward m) (downward m)) i 0 ≡ cond b i (m - 1 - i)
-getD-run m i true h = getD-upward m i h
-getD-run m i false h = getD-downward m i h
+length-notches : (m r : ℕ) → length (notches m r) ≡ m
+unfolding notches
+length-notches m r = go (even r)
+  where
+    go : (b : Bool) → length (cond b (upward m) (downward m)) ≡ m
+    go true = length-upward m
+    go false = length-downward m
 
 getD-map : {A B : Type 0} (f : A → B) (l : List A) (i : ℕ) (d : A) (e : B) → i < length l → getD (map f l) i e ≡ f (getD l i d)
 getD-map f [] i d e h = absurd (omega arith)
@@ -63,27 +71,26 @@ getD-map f (x ∷ l) zero d e h = refl
 getD-map f (x ∷ l) (suc i) d e h = getD-map f l i d e (omega arith)
 
 -- ---- the list through one more digit
+length-through : (m r : ℕ) (cs : List (List ℕ)) → length (through m r cs) ≡ length cs * m
+unfolding through
+length-through m r [] = omega arith
+length-through m r (c ∷ cs) =
+    let ih = length-through m (suc r) cs in
+    simp (length-append, length-map, length-notches) (omega arith)
+
+-- the words that one word of the slower digits is followed by
 block : ℕ → ℕ → List ℕ → List (List ℕ)
-block m r c = map (λ a. a ∷ c) (cond (even r) (upward m) (downward m))
+block m r c = map (λ a. a ∷ c) (notches m r)
 
 length-block : (m r : ℕ) (c : List ℕ) → length (block m r c) ≡ m
 unfolding block
-length-block m r c = length-map (cond (even r) (upward m) (downward m)) (λ a. a ∷ c) ∙ length-run m (even r)
+length-block m r c = length-map (notches m r) (λ a. a ∷ c) ∙ length-notches m r
 
 getD-block : (m r : ℕ) (c : List ℕ) (i : ℕ) → i < m → getD (block m r c) i [] ≡ reflect m r i ∷ c
 unfolding block
 getD-block m r c i h =
-    getD-map (λ a. a ∷ c) (cond (even r) (upward m) (downward m)) i 0 [] (let l = length-run m (even r) in omega arith)
-    ∙ ap (λ a. a ∷ c) (getD-run m i (even r) h)
-
-length-through : (m r : ℕ) (cs : List (List ℕ)) → length (through m r cs) ≡ length cs * m
-unfolding through block
-length-through m r [] = omega arith
-length-through m r (c ∷ cs) =
-    let l = length-append (block m r c) (through m (suc r) cs) in
-    let b = length-block m r c in
-    let ih = length-through m (suc r) cs in
-    omega arith
+    getD-map (λ a. a ∷ c) (notches m r) i 0 [] (let l = length-notches m r in omega arith)
+    ∙ ap (λ a. a ∷ c) (getD-notches m r i h)
 
 -- past the first block, k further on: the same place of the blocks that follow it
 past : (m r : ℕ) (c : List ℕ) (cs : List (List ℕ)) (i k : ℕ)

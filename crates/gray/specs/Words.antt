@@ -18,11 +18,14 @@ unfoldable pub downward : ℕ → List ℕ
 downward zero = []
 downward (suc m) = m ∷ downward m
 
--- the words of `slower`, whose ranks are r, r + 1, .., each with every notch below m for one digit more: upward after one of even
--- rank, downward after one of odd rank. The faster digit stands in front
+-- the notches below m as they follow a word of rank r: upward where r is even, downward where it is odd
+unfoldable pub notches : ℕ → ℕ → List ℕ
+notches m r = cond (even r) (upward m) (downward m)
+
+-- the words of `slower`, whose ranks are r, r + 1, .., each with every notch below m for one digit more, which stands in front
 unfoldable pub through : ℕ → ℕ → List (List ℕ) → List (List ℕ)
 through m r [] = []
-through m r (c ∷ slower) = map (λ a. a ∷ c) (cond (even r) (upward m) (downward m)) ++ through m (suc r) slower
+through m r (c ∷ slower) = map (λ a. a ∷ c) (notches m r) ++ through m (suc r) slower
 
 -- the list: one empty word for no digits; the list through digit i is made from that of the slower digits, n to i + 1
 unfoldable pub list : List ℕ → List (List ℕ)

@@ -9,7 +9,7 @@ use lib.ListN.{length, getD, take, replicate}
 use Rattle.gray.specs.Answers.{given, refused}
 use Rattle.gray.specs.Bools.{both}
 use Rattle.gray.specs.Radices.{digits, bytes, size, allFrom}
-use Rattle.gray.specs.Words.{upward, downward, through, list, isWord, rank}
+use Rattle.gray.specs.Words.{upward, downward, notches, through, list, isWord, rank}
 use Rattle.gray.specs.Calls.{sizeCall, rankCall}
 use Rattle.starred.specs.Same.{Test, numbers, lists, answers}
 
@@ -67,7 +67,7 @@ each (r ∷ rs) e zero h = r .test .shows (r .computed) (r .said) (both (r .test
 each (r ∷ rs) e (suc i) h = each rs (both (r .test .same (r .computed) (r .said)) (passes rs) e .1) i (omega arith)
 
 tested : passes table ≡ true
-unfolding passes table sizeCall rankCall size allFrom upward downward through list isWord rank
+unfolding passes table sizeCall rankCall size allFrom upward downward notches through list isWord rank
 tested = refl
 
 -- every row of the table holds
