@@ -26,18 +26,18 @@ abbrev pub fitting : ℕ → List ℕ → Answer (List ℕ)
 fitting room bytes = refusing 9 (ltb room (length bytes)) (given bytes)
 
 -- how many bytes an answer holds, the number that a writer gives
-abbrev pub counted : Answer (List ℕ) → Answer ℕ
-counted (given bytes) = given (length bytes)
-counted (refused k) = refused k
+abbrev pub byteCount : Answer (List ℕ) → Answer ℕ
+byteCount (given bytes) = given (length bytes)
+byteCount (refused k) = refused k
 
 -- what is in the lent memory after a writer: its bytes at the start and every byte past them as it came; all of them as they came
 -- where it refuses
-abbrev pub written : Answer (List ℕ) → List ℕ → List ℕ
-written (given bytes) out = bytes ++ drop (length bytes) out
-written (refused k) out = out
+abbrev pub outputAfter : Answer (List ℕ) → List ℕ → List ℕ
+outputAfter (given bytes) out = bytes ++ drop (length bytes) out
+outputAfter (refused k) out = out
 
 -- what every writer owes: with the room that its output has, it gives the number of its bytes or the refusal, and leaves them,
 -- and nothing else, in the output
 pub record Wrote (call : ℕ → Answer (List ℕ)) (answer : Answer ℕ) (before after : List ℕ) : Type 0 where
-  pub answers : answer ≡ counted (call (length before))
-  pub leaves : after ≡ written (call (length before)) before
+  pub answers : answer ≡ byteCount (call (length before))
+  pub leaves : after ≡ outputAfter (call (length before)) before

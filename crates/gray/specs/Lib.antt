@@ -23,4 +23,5 @@ pub mod Sizes
 pub mod Ticks
 pub mod Digits
 pub mod Refusals
+-- what private functions answer
 pub mod Stages

@@ -8,7 +8,7 @@ use mathlib.Core.List.{List, _++_}
 use borrow.Author.Tests.{eqb-false, ltb-false, not-false}
 use lib.Dec.{eqb, ltb}
 use lib.ListN.{length, drop, length-reverse}
-use Rattle.gray.specs.Answers.{Answer, given, refused, refusing, numberOf, counted, written, Wrote}
+use Rattle.gray.specs.Answers.{Answer, given, refused, refusing, numberOf, byteCount, outputAfter, Wrote}
 use Rattle.gray.specs.Radices.{digits, size, allFrom, wrongCount, wrongRadix, tooMany, ofRadices}
 use Rattle.gray.specs.Calls.{countedAs, sizeCall}
 use Rattle.gray.specs.declared.Counted.{Counted}
@@ -117,7 +117,7 @@ pub wrote-nothing : (call : ℕ → Answer (List ℕ)) (k : ℕ) (out : List ℕ
     → call (length out) ≡ refused k
     → Wrote call (refused k) out out
 wrote-nothing call k out e =
-    record { answers = sym (ap counted e); leaves = sym (ap (λ a. written a out) e) }
+    record { answers = sym (ap byteCount e); leaves = sym (ap (λ a. outputAfter a out) e) }
 
 pub wrote-bytes : (call : ℕ → Answer (List ℕ)) (bs before after : List ℕ) (n : ℕ)
     → call (length before) ≡ given bs
@@ -126,6 +126,6 @@ pub wrote-bytes : (call : ℕ → Answer (List ℕ)) (bs before after : List ℕ
     → Wrote call (given n) before after
 wrote-bytes call bs before after n e long f =
     record {
-      answers = ap given long ∙ sym (ap counted e);
-      leaves = f ∙ ap (λ k. bs ++ drop k before) long ∙ sym (ap (λ a. written a before) e);
+      answers = ap given long ∙ sym (ap byteCount e);
+      leaves = f ∙ ap (λ k. bs ++ drop k before) long ∙ sym (ap (λ a. outputAfter a before) e);
     }

@@ -1,11 +1,12 @@
--- Tests for equal numbers, lists and answers, and that a test that passes shows the equation.
+-- Tests for equal numbers, changes, lists and answers, and that a test that passes shows the equation.
 use Prim.Native.Nat.{ℕ}
 use mathlib.Core.Path.{_≡_, refl, ap, ap₂}
-use mathlib.Core.Bool.{Bool, true, false, _&&_}
+use mathlib.Core.Bool.{Bool, true, false, _&&_, Bool·beq}
 use mathlib.Core.List.{List, [], _∷_}
 use borrow.Author.Tests.{eqb-true}
 use lib.Dec.{eqb}
 use Rattle.gray.specs.Answers.{Answer, given, refused}
+use Rattle.gray.specs.Changes.{Change}
 use Rattle.gray.specs.Bools.{clash, both}
 
 -- a test of equality
@@ -15,6 +16,23 @@ pub record Test (A : Type 0) : Type 0 where
 
 abbrev pub numbers : Test ℕ
 numbers = record { same = eqb; shows = eqb-true }
+
+showsBool : (a b : Bool) → Bool·beq a b ≡ true → a ≡ b
+showsBool true true e = refl
+showsBool true false e = clash (cc)
+showsBool false true e = clash (cc)
+showsBool false false e = refl
+
+abbrev pub sameChange : Change → Change → Bool
+sameChange c d = eqb (c .digit) (d .digit) && Bool·beq (c .down) (d .down)
+
+pub showsChange : (c d : Change) → sameChange c d ≡ true → c ≡ d
+showsChange c d e =
+    let (digits, downs) = both (eqb (c .digit) (d .digit)) (Bool·beq (c .down) (d .down)) e in
+    ap₂ (λ n b. record { digit = n; down = b }) (eqb-true (c .digit) (d .digit) digits) (showsBool (c .down) (d .down) downs)
+
+abbrev pub changes : Test Change
+changes = record { same = sameChange; shows = showsChange }
 
 module _ {A : Type 0} (t : Test A) where
   abbrev pub sameList : List A → List A → Bool

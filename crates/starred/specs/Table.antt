@@ -3,15 +3,17 @@
 use Prim.Native.Nat.{ℕ, zero, suc, _^_, _<_}
 use native.Mathlib.Omega.{arith}
 use mathlib.Core.Path.{_≡_, refl}
-use mathlib.Core.Bool.{Bool, true, cond, _&&_}
+use mathlib.Core.Bool.{Bool, true, false, cond, _&&_}
 use mathlib.Core.List.{List, [], _∷_, map}
 use lib.ListN.{length, getD, take, replicate}
 use Rattle.gray.specs.Answers.{given, refused}
 use Rattle.gray.specs.Bools.{both}
 use Rattle.gray.specs.Radices.{digits, bytes, size, allFrom}
 use Rattle.gray.specs.Words.{upward, downward, notches, through, list, isWord, rank}
+use Rattle.gray.specs.Changes.{Change, difference, change, ruler}
+use Rattle.gray.specs.Costs.{wholeParts, cost}
 use Rattle.gray.specs.Calls.{sizeCall, rankCall}
-use Rattle.starred.specs.Same.{Test, numbers, lists, answers}
+use Rattle.starred.specs.Same.{Test, numbers, changes, lists, answers}
 
 -- a row: what the definitions give, and what document 01 says it is
 pub record Row : Type 1 where
@@ -34,11 +36,23 @@ abbrev behind : List ℕ → List (List ℕ) → List (List ℕ)
 behind w [] = []
 behind w (v ∷ l) = cond (lists numbers .same w v) l (behind w l)
 
+abbrev up : ℕ → Change
+up k = record { digit = k; down = false }
+
+abbrev down : ℕ → Change
+down k = record { digit = k; down = true }
+
 unfoldable pub table : List Row
 table =
     -- m2 = 2, m1 = 3
     row (lists (lists numbers)) (wordsOf (2 ∷ 3 ∷ []))
     ((0 ∷ 0 ∷ []) ∷ (0 ∷ 1 ∷ []) ∷ (0 ∷ 2 ∷ []) ∷ (1 ∷ 2 ∷ []) ∷ (1 ∷ 1 ∷ []) ∷ (1 ∷ 0 ∷ []) ∷ [])
+    -- the same: its changes, and the digits that the ruler function names, the end's among them
+    ∷ row (lists changes) (map (change (digits (2 ∷ 3 ∷ []))) (1 ∷ 2 ∷ 3 ∷ 4 ∷ 5 ∷ []))
+    (up 1 ∷ up 1 ∷ up 2 ∷ down 1 ∷ down 1 ∷ [])
+    ∷ row (lists numbers) (map (ruler (digits (2 ∷ 3 ∷ []))) (1 ∷ 2 ∷ 3 ∷ 4 ∷ 5 ∷ 6 ∷ [])) (1 ∷ 1 ∷ 2 ∷ 1 ∷ 1 ∷ 3 ∷ [])
+    -- three of 2: entry 8 is finished at useful step 15
+    ∷ row numbers (cost (digits (replicate 3 2)) 8) 15
     -- four sluices of 3
     ∷ row (answers numbers) (rankCall (replicate 4 3) (0 ∷ 1 ∷ 2 ∷ 2 ∷ [])) (given 9)
     -- six of 2
@@ -67,7 +81,7 @@ each (r ∷ rs) e zero h = r .test .shows (r .computed) (r .said) (both (r .test
 each (r ∷ rs) e (suc i) h = each rs (both (r .test .same (r .computed) (r .said)) (passes rs) e .1) i (omega arith)
 
 tested : passes table ≡ true
-unfolding passes table sizeCall rankCall size allFrom upward downward notches through list isWord rank
+unfolding passes table sizeCall rankCall size allFrom upward downward notches through list isWord rank difference ruler wholeParts
 tested = refl
 
 -- every row of the table holds
