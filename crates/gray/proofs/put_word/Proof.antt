@@ -10,6 +10,7 @@ use lib.ListN.{length, take, drop, length-set}
 use Rattle.gray.specs.Radices.{digits, bytes}
 use Rattle.gray.specs.Words.{reflect}
 use Rattle.gray.specs.Members.{wordAt}
+use Rattle.gray.specs.Stages.{putWord}
 use Rattle.gray.specs.Ranks.{reflect-below}
 use Rattle.gray.specs.Digits.{radix-from, taken}
 use Rattle.gray.proofs.Laws.{put-more, put-all}
@@ -20,7 +21,7 @@ abbrev Inv-loop : tie.InvT-loop
 Inv-loop radices rank out₀ q₀ i₀ out q i =
     (i ≤ length radices)
     × (length out ≡ length out₀)
-    × (bytes (wordAt (digits (take i radices)) q) ++ drop i out ≡ bytes (wordAt (digits radices) rank) ++ drop (length radices) out₀)
+    × (bytes (wordAt (digits (take i radices)) q) ++ drop i out ≡ putWord radices rank out₀)
 
 abbrev μ-loop : tie.MeasureT-loop
 μ-loop radices rank out₀ q₀ i₀ out q i = i
