@@ -48,6 +48,13 @@ fn size_case(radices: &[u8]) {
     print(b"\n");
 }
 
+fn number_case(radices: &[u8]) {
+    print(b"number");
+    print_bytes(radices);
+    print_value(wide(gray::size(radices).number()));
+    print(b"\n");
+}
+
 fn rank_case(radices: &[u8], word: &[u8]) {
     print(b"rank");
     print_bytes(radices);
@@ -109,10 +116,17 @@ fn limits() {
     size_case(&fours);
     fours[0] = 5;
     size_case(&fours);
+    // 2^62 + 1,243,840: no survey has fewer settings and more than 2^62
+    size_case(b"\x40\x31\x1f\x2b\x35\x61\x67\x67\x71\xb3");
     let mut most = [255u8; 48];
     size_case(&most);
     most[47] = 1;
     size_case(&most);
+}
+
+fn numbers() {
+    number_case(b"\x02\x03");
+    number_case(b"\x02\x01");
 }
 
 fn ranks() {
@@ -153,6 +167,7 @@ fn moves() {
 fn main() {
     sizes();
     limits();
+    numbers();
     ranks();
     words();
     moves();
