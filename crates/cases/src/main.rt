@@ -116,7 +116,7 @@ fn limits() {
     size_case(&fours);
     fours[0] = 5;
     size_case(&fours);
-    // 2^62 + 1,243,840: no survey has fewer settings and more than 2^62
+    // 2^62 + 1,243,840, the smallest N over 2^62 that notch counts up to 255 can make
     size_case(b"\x40\x31\x1f\x2b\x35\x61\x67\x67\x71\xb3");
     let mut most = [255u8; 48];
     size_case(&most);

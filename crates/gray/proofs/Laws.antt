@@ -10,7 +10,7 @@ use borrow.Author.Tests.{eq-eqb, ne-eqb, lt-ltb, le-ltb, le-leb, lt-leb, ltb-tru
 use lib.Bits.{bitAnd, bitOr, and-mask, or-shifted-r, or-zero-r}
 use lib.Dec.{eqb, leb, ltb}
 use lib.ListN.{length, getD, set, take, drop, length-reverse}
-use lib.Seq.{drop-cons, lt-length-set, getD-set-same, drop-set-lt, append-snoc}
+use lib.Seq.{take-all, drop-cons, lt-length-set, getD-set-same, drop-set-lt, append-snoc}
 use mir.Val.{boolByte}
 use Rattle.gray.specs.MoveBytes.{moveByte, moveDigit, moveDown}
 use Rattle.gray.specs.Answers.{given, refused}
@@ -25,9 +25,9 @@ use Rattle.gray.specs.declared.Product.the-variants.{Within, Over}
 use Rattle.gray.specs.Words.{isWord, reflect, rank, member}
 use Rattle.gray.specs.Members.{wordAt, member-is-wordAt, length-wordAt}
 use Rattle.gray.specs.Ranks.{rank-below}
-use Rattle.gray.specs.Digits.{digits-more, taken, size-taken, isWord-taken, word-long}
+use Rattle.gray.specs.Digits.{digits-more, size-taken, isWord-taken, word-long}
 use Rattle.gray.specs.Sizes.{allFrom-weaker}
-use Rattle.gray.specs.Bools.{clash}
+use Rattle.gray.specs.Bools.{impossible}
 
 -- ---- all_two
 pub tested-more : (k : ℕ) (l : List ℕ) (i : ℕ) (ok : Bool)
@@ -41,7 +41,7 @@ pub tested-all : (k : ℕ) (l : List ℕ) (i : ℕ) (ok : Bool)
     → length l ≤ i
     → ok ≡ allFrom k (digits (take i l))
     → ok ≡ allFrom k (digits l)
-tested-all k l i ok h e = e ∙ ap (λ t. allFrom k (digits t)) (taken l i h)
+tested-all k l i ok h e = e ∙ ap (λ t. allFrom k (digits t)) (take-all i l h)
 
 -- ---- products within 2^62 and over it
 pub within : (n : ℕ) → n ≤ 2 ^ 62 → Within n ≡ productAs n
@@ -54,7 +54,7 @@ within-says : (n q : ℕ) → productAs n ≡ Within q → (q ≡ n) × (q ≤ 2
 within-says n q e = go (ltb (2 ^ 62) n) refl
   where
     go : (b : Bool) → ltb (2 ^ 62) n ≡ b → (q ≡ n) × (q ≤ 2 ^ 62)
-    go true t = clash (cc)
+    go true t = impossible (cc)
     go false t = let same : q ≡ n = cc in let small = ltb-false (2 ^ 62) n t in (same, omega arith)
 
 over-says : (n : ℕ) → productAs n ≡ Over → 2 ^ 62 < n
@@ -62,7 +62,7 @@ over-says n e = go (ltb (2 ^ 62) n) refl
   where
     go : (b : Bool) → ltb (2 ^ 62) n ≡ b → 2 ^ 62 < n
     go true t = ltb-true (2 ^ 62) n t
-    go false t = clash (cc)
+    go false t = impossible (cc)
 
 -- a small product and a radix
 pub small-product : (m p : ℕ) → m < 256 → p ≤ 2 ^ 54 → m * p ≤ 2 ^ 62
@@ -112,7 +112,7 @@ pub size-all : (l : List ℕ) (i p : ℕ)
     → p ≡ size (digits (take i l))
     → p ≤ 2 ^ 62
     → Within p ≡ productAs (size (digits l))
-size-all l i p h e b = within p b ∙ ap productAs (e ∙ ap (λ t. size (digits t)) (taken l i h))
+size-all l i p h e b = within p b ∙ ap productAs (e ∙ ap (λ t. size (digits t)) (take-all i l h))
 
 -- ---- size
 module _ (l : List ℕ) where
@@ -162,7 +162,7 @@ pub below-all : (l w : List ℕ) (i : ℕ) (ok : Bool)
     → length w ≡ length l
     → ok ≡ isWord (digits (take i l)) (digits (take i w))
     → ok ≡ isWord (digits l) (digits w)
-below-all l w i ok h same e = e ∙ ap₂ (λ t u. isWord (digits t) (digits u)) (taken l i h) (taken w i (omega arith))
+below-all l w i ok h same e = e ∙ ap₂ (λ t u. isWord (digits t) (digits u)) (take-all i l h) (take-all i w (omega arith))
 
 -- ---- rank_from
 module _ (l w : List ℕ) (one : isWord (digits l) (digits w) ≡ true) where
@@ -191,7 +191,7 @@ module _ (l w : List ℕ) (one : isWord (digits l) (digits w) ≡ true) where
   pub rank-all : (i p : ℕ) → length l ≤ i → p ≡ rank (digits (take i l)) (digits (take i w)) → p ≡ rank (digits l) (digits w)
   rank-all i p h e =
       let long = word-long l w one in
-      e ∙ ap₂ (λ t u. rank (digits t) (digits u)) (taken l i h) (taken w i (omega arith))
+      e ∙ ap₂ (λ t u. rank (digits t) (digits u)) (take-all i l h) (take-all i w (omega arith))
 
 -- ---- check_word and rank
 pub no-word : (l w : List ℕ) → (length w ≡ length l → ⊥) → isWord (digits l) (digits w) ≡ false
@@ -203,10 +203,10 @@ no-word l w n = go (isWord (digits l) (digits w)) refl
 
 pub fine-says : (b : Bool) → checkedAs b ≡ Fine → b ≡ true
 fine-says true e = refl
-fine-says false e = clash (cc)
+fine-says false e = impossible (cc)
 
 pub refused-says : (b : Bool) (k : ℕ) → checkedAs b ≡ CheckRefused k → (b ≡ false) × (8 ≡ k)
-refused-says true k e = clash (cc)
+refused-says true k e = impossible (cc)
 refused-says false k e = (refl, cc)
 
 module _ (l w : List ℕ) (n : ℕ) (size-is : sizeCall l ≡ given n) where

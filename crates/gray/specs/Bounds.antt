@@ -5,7 +5,7 @@ use native.Mathlib.Nat.{div-div-eq-div-mul, div-one, div-add-mod', mod-lt, mul-l
 use native.Mathlib.Omega.{arith}
 use mathlib.Core.Path.{_≡_, refl, sym, ap, _∙_}
 use mathlib.Core.Logic.{⊎-elim}
-use mathlib.Core.Bool.{true}
+use mathlib.Core.Bool.{true, and-eq-true-iff}
 use mathlib.Core.List.{List, [], _∷_}
 use borrow.Author.Tests.{leb-true}
 use lib.Dec.{leb}
@@ -13,9 +13,8 @@ use lib.ListN.{length}
 use Rattle.gray.specs.Radices.{allFrom}
 use Rattle.gray.specs.Changes.{ruler}
 use Rattle.gray.specs.Costs.{wholeParts, cost}
-use Rattle.gray.specs.Bools.{both}
-use Rattle.gray.specs.Rulers.{ruler-turns, ruler-moves}
-use Rattle.gray.specs.Ticks.{Tick, Tick.moves, Tick.turns, tick}
+use Rattle.gray.specs.Rulers.{ruler-carry, ruler-no-carry}
+use Rattle.gray.specs.Increments.{Increment, Increment.no-carry, Increment.carry, increment}
 
 -- ---- the nested form
 -- the cost with one division after another
@@ -36,16 +35,16 @@ pub cost-is-nested : (ms : List ℕ) (j : ℕ) → cost ms j ≡ nested ms j
 cost-is-nested ms j = rw (div-one j) at (nested-parts ms j 1)
 
 -- ---- each entry costs as many steps as the ruler function says
-tick-costs : (m : ℕ) (ms : List ℕ) (j : ℕ) → Tick m j
+increment-costs : (m : ℕ) (ms : List ℕ) (j : ℕ) → Increment m j
     → nested ms (suc (j / m)) ≡ nested ms (j / m) + ruler ms (suc (j / m))
     → nested (m ∷ ms) (suc j) ≡ nested (m ∷ ms) j + ruler (m ∷ ms) (suc j)
 unfolding nested
-tick-costs m ms j (moves q b below) slower =
-    let r = ruler-moves m ms (suc j) (j % m) b in
+increment-costs m ms j (no-carry q b below) slower =
+    let r = ruler-no-carry m ms (suc j) (j % m) b in
     let e = ap (nested ms) q in
     omega arith
-tick-costs m ms j (turns q b whole) slower =
-    let r = ruler-turns m ms (suc j) b ∙ ap (λ (n : ℕ). suc (ruler ms n)) q in
+increment-costs m ms j (carry q b whole) slower =
+    let r = ruler-carry m ms (suc j) b ∙ ap (λ (n : ℕ). suc (ruler ms n)) q in
     let e = ap (nested ms) q in
     omega arith
 
@@ -53,8 +52,8 @@ nested-suc : (ms : List ℕ) → allFrom 1 ms ≡ true → (j : ℕ) → nested 
 unfolding allFrom
 nested-suc [] e j = unfold nested ruler in omega arith
 nested-suc (m ∷ ms) e j =
-    let (first, others) = both (leb 1 m) (allFrom 1 ms) e in
-    tick-costs m ms j (tick m j (leb-true 1 m first)) (nested-suc ms others (j / m))
+    let (first, others) = and-eq-true-iff (leb 1 m) (allFrom 1 ms) .0 e in
+    increment-costs m ms j (increment m j (leb-true 1 m first)) (nested-suc ms others (j / m))
 
 pub entry-costs-ruler : (ms : List ℕ) → allFrom 1 ms ≡ true → (j : ℕ) → cost ms (suc j) ≡ cost ms j + ruler ms (suc j)
 entry-costs-ruler ms e j = rw (cost-is-nested ms (suc j), cost-is-nested ms j) (nested-suc ms e j)
@@ -73,7 +72,7 @@ nested-double : (ms : List ℕ) → allFrom 2 ms ≡ true → (j : ℕ) → 0 < 
 unfolding allFrom nested
 nested-double [] e j pos = omega arith
 nested-double (m ∷ ms) e j pos =
-    let (first, others) = both (leb 2 m) (allFrom 2 ms) e in
+    let (first, others) = and-eq-true-iff (leb 2 m) (allFrom 2 ms) .0 e in
     let h = half j m (leb-true 2 m first) in
     ⊎-elim
     (λ z. let s = ap (nested ms) z in let t = nested-zero ms in omega arith)
@@ -109,7 +108,7 @@ nested-burst : (ms : List ℕ) → allFrom 2 ms ≡ true → (j d : ℕ) → 0 <
 unfolding allFrom nested
 nested-burst [] e j d pos = omega arith
 nested-burst (m ∷ ms) e j d pos =
-    let (first, others) = both (leb 2 m) (allFrom 2 ms) e in
+    let (first, others) = and-eq-true-iff (leb 2 m) (allFrom 2 ms) .0 e in
     let (f, q, small) = quotient-grows j d m (leb-true 2 m first) in
     let r = ap (nested ms) q in
     ⊎-elim

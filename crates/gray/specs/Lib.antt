@@ -20,7 +20,7 @@ pub mod Faults
 -- laws
 pub mod Bools
 pub mod Sizes
-pub mod Ticks
+pub mod Increments
 pub mod Digits
 pub mod Refusals
 -- what private functions answer

@@ -3,7 +3,7 @@ use Prim.Native.Nat.{ℕ, _+_, _-_, _*_, _/_, _%_, _<_}
 use native.Mathlib.Nat.{div-add-mod', mod-lt, mul-comm}
 use native.Mathlib.Omega.{arith}
 use mathlib.Core.Path.{_≡_, refl, sym, ap, _∙_}
-use mathlib.Core.Bool.{Bool, true, false, cond}
+use mathlib.Core.Bool.{Bool, true, false, cond, and-eq-true-iff}
 use mathlib.Core.List.{List, [], _∷_}
 use borrow.Author.Tests.{ltb-true, lt-ltb}
 use lib.Arith.{digits-lt, digits-div, digits-mod}
@@ -12,7 +12,7 @@ use Rattle.gray.specs.Radices.{size}
 use Rattle.gray.specs.Words.{even, member, isWord, reflect, rank}
 use Rattle.gray.specs.Members.{wordAt, member-is-wordAt}
 use Rattle.gray.specs.Sizes.{quotient-below, first-pos}
-use Rattle.gray.specs.Bools.{clash, both}
+use Rattle.gray.specs.Bools.{impossible}
 
 -- ---- one digit: to reflect is to keep it below its radix, and twice is to leave it
 cond-below : (m a : ℕ) (b : Bool) → a < m → cond b a (m - 1 - a) < m
@@ -40,20 +40,12 @@ rank-of-wordAt (m ∷ ms) r h =
     ∙ ap (λ (a : ℕ). r / m * m + a) (reflect-twice m (r / m) (r % m) b)
     ∙ div-add-mod' r m
 
-pub wordAt-is-word : (ms : List ℕ) (r : ℕ) → r < size ms → isWord ms (wordAt ms r) ≡ true
-unfolding isWord wordAt
-wordAt-is-word [] r h = refl
-wordAt-is-word (m ∷ ms) r h =
-    rw
-    (lt-ltb (reflect m (r / m) (r % m)) m (reflect-below m (r / m) (r % m) (mod-lt r (first-pos m ms r h))))
-    (wordAt-is-word ms (r / m) (quotient-below m ms r h))
-
 pub rank-below : (ms w : List ℕ) → isWord ms w ≡ true → rank ms w < size ms
 unfolding isWord rank size
 rank-below [] w e = omega arith
-rank-below (m ∷ ms) [] e = clash (cc)
+rank-below (m ∷ ms) [] e = impossible (cc)
 rank-below (m ∷ ms) (a ∷ w) e =
-    let (first, others) = both (ltb a m) (isWord ms w) e in
+    let (first, others) = and-eq-true-iff (ltb a m) (isWord ms w) .0 e in
     rw
     (mul-comm m (size ms))
     (digits-lt (rank-below ms w others) (reflect-below m (rank ms w) a (ltb-true a m first)))
@@ -61,14 +53,22 @@ rank-below (m ∷ ms) (a ∷ w) e =
 pub wordAt-of-rank : (ms w : List ℕ) → isWord ms w ≡ true → wordAt ms (rank ms w) ≡ w
 unfolding isWord rank wordAt
 wordAt-of-rank [] [] e = refl
-wordAt-of-rank [] (a ∷ w) e = clash (cc)
-wordAt-of-rank (m ∷ ms) [] e = clash (cc)
+wordAt-of-rank [] (a ∷ w) e = impossible (cc)
+wordAt-of-rank (m ∷ ms) [] e = impossible (cc)
 wordAt-of-rank (m ∷ ms) (a ∷ w) e =
-    let (first, others) = both (ltb a m) (isWord ms w) e in
+    let (first, others) = and-eq-true-iff (ltb a m) (isWord ms w) .0 e in
     let below : a < m = ltb-true a m first in
     let b : reflect m (rank ms w) a < m = reflect-below m (rank ms w) a below in
     rw
     (digits-div (rank ms w) b, digits-mod (rank ms w) b, reflect-twice m (rank ms w) a below, wordAt-of-rank ms w others)
+
+pub wordAt-is-word : (ms : List ℕ) (r : ℕ) → r < size ms → isWord ms (wordAt ms r) ≡ true
+unfolding isWord wordAt
+wordAt-is-word [] r h = refl
+wordAt-is-word (m ∷ ms) r h =
+    rw
+    (lt-ltb (reflect m (r / m) (r % m)) m (reflect-below m (r / m) (r % m) (mod-lt r (first-pos m ms r h))))
+    (wordAt-is-word ms (r / m) (quotient-below m ms r h))
 
 -- ---- the list
 -- each member is a word, and its rank is its place

@@ -13,7 +13,7 @@ use Rattle.gray.specs.Radices.{digits, size, allFrom, wrongCount, wrongR
 use Rattle.gray.specs.Calls.{countedAs, sizeCall}
 use Rattle.gray.specs.declared.Counted.{Counted}
 use Rattle.gray.specs.declared.Counted.the-variants.{Refused}
-use Rattle.gray.specs.Bools.{clash, neither}
+use Rattle.gray.specs.Bools.{impossible, neither}
 use Rattle.gray.specs.Faults.{Fault, Fault.count, Fault.radix, Fault.many, Fault.none, fault, decided, lowest-fault-is-given}
 
 -- ---- radices that are refused, and radices that are accepted
@@ -26,7 +26,7 @@ same-refusal : {A : Type 0} {ms : List ℕ} (f : Fault ms) (n k : ℕ) (rest : A
 same-refusal (count e) n k rest p = let t : 2 ≡ k = cc in ap refused t
 same-refusal (radix e f) n k rest p = let t : 3 ≡ k = cc in ap refused t
 same-refusal (many e f g) n k rest p = let t : 4 ≡ k = cc in ap refused t
-same-refusal (none e f g) n k rest p = clash (cc)
+same-refusal (none e f g) n k rest p = impossible (cc)
 
 pub radices-refused : {A : Type 0} (l : List ℕ) (k : ℕ) (rest : Answer A)
     → sizeCall l ≡ refused k
@@ -40,7 +40,7 @@ radices-refused l k rest e =
 pub passed : {A : Type 0} (k : ℕ) (wrong : Bool) (rest : Answer A) (a : A)
     → refusing k wrong rest ≡ given a
     → (wrong ≡ false) × (rest ≡ given a)
-passed k true rest a e = clash (cc)
+passed k true rest a e = impossible (cc)
 passed k false rest a e = (refl, e)
 
 -- radices with which a call gives a value have no fault
@@ -51,9 +51,9 @@ pub record Faultless {A : Type 0} (ms : List ℕ) (rest : Answer A) (a : A) : Ty
   pub value : rest ≡ given a
 
 no-fault : {A : Type 0} {ms : List ℕ} (f : Fault ms) (rest : Answer A) (a : A) → decided f rest ≡ given a → Faultless ms rest a
-no-fault (count e) rest a p = clash (cc)
-no-fault (radix e f) rest a p = clash (cc)
-no-fault (many e f g) rest a p = clash (cc)
+no-fault (count e) rest a p = impossible (cc)
+no-fault (radix e f) rest a p = impossible (cc)
+no-fault (many e f g) rest a p = impossible (cc)
 no-fault (none e f g) rest a p = record { no-count = e; no-radix = f; no-many = g; value = p }
 
 pub faultless : {A : Type 0} (ms : List ℕ) (rest : Answer A) (a : A) → ofRadices ms rest ≡ given a → Faultless ms rest a

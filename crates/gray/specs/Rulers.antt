@@ -5,7 +5,7 @@ use native.Mathlib.Decide.{ℕ-discrete}
 use native.Mathlib.Omega.{arith}
 use mathlib.Core.Path.{_≡_, refl, ap, _∙_}
 use mathlib.Core.Logic.{_↔_, inl, inr}
-use mathlib.Core.Bool.{Bool, true, false, cond, not}
+use mathlib.Core.Bool.{Bool, true, false, cond, not, and-eq-true-iff}
 use mathlib.Core.List.{List, [], _∷_}
 use borrow.Author.Tests.{eq-eqb, ne-eqb, lt-ltb, le-ltb, leb-true}
 use lib.Arith.{mod-mul}
@@ -16,29 +16,28 @@ use Rattle.gray.specs.Words.{even, member, reflect}
 use Rattle.gray.specs.Changes.{later, difference, change, Moves, Moves.up, Moves.down, Moves.next, ruler, descends, OneApart}
 use Rattle.gray.specs.Members.{wordAt, member-is-wordAt, length-wordAt}
 use Rattle.gray.specs.Sizes.{quotient-below, first-pos, size-pos, allFrom-take}
-use Rattle.gray.specs.Bools.{both}
-use Rattle.gray.specs.Ticks.{Tick, Tick.moves, Tick.turns, tick, even-suc}
+use Rattle.gray.specs.Increments.{Increment, Increment.no-carry, Increment.carry, increment, even-suc}
 
 -- ---- the ruler function and the direction, by the first radix
-pub ruler-turns : (m : ℕ) (ms : List ℕ) (j : ℕ) → j % m ≡ 0 → ruler (m ∷ ms) j ≡ suc (ruler ms (j / m))
+pub ruler-carry : (m : ℕ) (ms : List ℕ) (j : ℕ) → j % m ≡ 0 → ruler (m ∷ ms) j ≡ suc (ruler ms (j / m))
 unfolding ruler
-ruler-turns m ms j e = rw (eq-eqb (j % m) 0 e)
+ruler-carry m ms j e = rw (eq-eqb (j % m) 0 e)
 
-pub ruler-moves : (m : ℕ) (ms : List ℕ) (j b : ℕ) → j % m ≡ suc b → ruler (m ∷ ms) j ≡ 1
+pub ruler-no-carry : (m : ℕ) (ms : List ℕ) (j b : ℕ) → j % m ≡ suc b → ruler (m ∷ ms) j ≡ 1
 unfolding ruler
-ruler-moves m ms j b e = rw (ne-eqb (j % m) 0 (λ z. omega arith))
+ruler-no-carry m ms j b e = rw (ne-eqb (j % m) 0 (λ z. omega arith))
 
-pub descends-turns : (m : ℕ) (ms : List ℕ) (j : ℕ) → j % m ≡ 0 → descends (m ∷ ms) j ≡ descends ms (j / m)
+pub descends-no-carry : (m : ℕ) (ms : List ℕ) (j b : ℕ) → j % m ≡ suc b → descends (m ∷ ms) j ≡ not (even (j / m))
 unfolding descends
-descends-turns m ms j e =
-    let part : size (take (ruler (m ∷ ms) j) (m ∷ ms)) ≡ m * size (take (ruler ms (j / m)) ms) = unfold size in rw (ruler-turns m ms j e) in
-    rw part (rw (← (div-div-eq-div-mul j m (size (take (ruler ms (j / m)) ms)))))
-
-pub descends-moves : (m : ℕ) (ms : List ℕ) (j b : ℕ) → j % m ≡ suc b → descends (m ∷ ms) j ≡ not (even (j / m))
-unfolding descends
-descends-moves m ms j b e =
-    let part : size (take (ruler (m ∷ ms) j) (m ∷ ms)) ≡ m = unfold size in rw (ruler-moves m ms j b e) (mul-one m) in
+descends-no-carry m ms j b e =
+    let part : size (take (ruler (m ∷ ms) j) (m ∷ ms)) ≡ m = unfold size in rw (ruler-no-carry m ms j b e) (mul-one m) in
     rw part
+
+pub descends-carry : (m : ℕ) (ms : List ℕ) (j : ℕ) → j % m ≡ 0 → descends (m ∷ ms) j ≡ descends ms (j / m)
+unfolding descends
+descends-carry m ms j e =
+    let part : size (take (ruler (m ∷ ms) j) (m ∷ ms)) ≡ m * size (take (ruler ms (j / m)) ms) = unfold size in rw (ruler-carry m ms j e) in
+    rw part (rw (← (div-div-eq-div-mul j m (size (take (ruler ms (j / m)) ms)))))
 
 -- ---- one move
 one-digit : (m b : ℕ) (w : List ℕ) (e : Bool)
@@ -52,18 +51,18 @@ at-rest : (m b : ℕ) (e : Bool) → suc b ≡ m → cond e b (m - 1 - b) ≡ co
 at-rest m b true h = omega arith
 at-rest m b false h = omega arith
 
-rest-moves : (m : ℕ) (ms : List ℕ) (j : ℕ) → Tick m j
+rest-moves : (m : ℕ) (ms : List ℕ) (j : ℕ) → Increment m j
     → (suc j / m ≡ suc (j / m) → Moves (ruler ms (suc (j / m))) (descends ms (suc (j / m))) (wordAt ms (j / m)) (wordAt ms (suc (j / m))))
     → Moves (ruler (m ∷ ms) (suc j)) (descends (m ∷ ms) (suc j)) (wordAt (m ∷ ms) j) (wordAt (m ∷ ms) (suc j))
 unfolding wordAt
-rest-moves m ms j (moves q b below) slower =
+rest-moves m ms j (no-carry q b below) slower =
     rw
-    (ruler-moves m ms (suc j) (j % m) b, descends-moves m ms (suc j) (j % m) b, q, b)
+    (ruler-no-carry m ms (suc j) (j % m) b, descends-no-carry m ms (suc j) (j % m) b, q, b)
     (one-digit m (j % m) (wordAt ms (j / m)) (even (j / m)) below)
-rest-moves m ms j (turns q b whole) slower =
+rest-moves m ms j (carry q b whole) slower =
     let still : reflect m (j / m) (j % m) ≡ reflect m (suc (j / m)) 0 = rw (even-suc (j / m)) (at-rest m (j % m) (even (j / m)) whole) in
     rw
-    (ruler-turns m ms (suc j) b, descends-turns m ms (suc j) b, q, b, still)
+    (ruler-carry m ms (suc j) b, descends-carry m ms (suc j) b, q, b, still)
     (next (slower q))
 
 pub wordAt-moves : (ms : List ℕ) (j : ℕ)
@@ -72,7 +71,7 @@ pub wordAt-moves : (ms : List ℕ) (j : ℕ)
 wordAt-moves [] j h = absurd (unfold size in omega arith)
 wordAt-moves (m ∷ ms) j h =
     rest-moves m ms j
-    (tick m j (first-pos m ms (suc j) h))
+    (increment m j (first-pos m ms (suc j) h))
     (λ q. wordAt-moves ms (j / m) (rw q at (quotient-below m ms (suc j) h)))
 
 -- ---- what a move says
@@ -140,8 +139,8 @@ pub ruler-at-end : (ms : List ℕ) → allFrom 1 ms ≡ true → ruler ms (size 
 unfolding allFrom size
 ruler-at-end [] e = unfold ruler in refl
 ruler-at-end (m ∷ ms) e =
-    let (first, others) = both (leb 1 m) (allFrom 1 ms) e in
-    ruler-turns m ms (m * size ms) (mul-mod-right m (size ms))
+    let (first, others) = and-eq-true-iff (leb 1 m) (allFrom 1 ms) .0 e in
+    ruler-carry m ms (m * size ms) (mul-mod-right m (size ms))
     ∙ ap (λ (n : ℕ). suc (ruler ms n)) (mul-div-cancel-left (size ms) (leb-true 1 m first))
     ∙ ap suc (ruler-at-end ms others)
 
@@ -150,8 +149,8 @@ ruler-pos : (ms : List ℕ) (j : ℕ) → 0 < ruler ms j
 ruler-pos [] j = unfold ruler in omega arith
 ruler-pos (m ∷ ms) j =
     elim (ℕ-discrete (j % m) 0) [
-      | yes e ↦ let r = ruler-turns m ms j e in omega arith
-      | no ne ↦ let b : j % m ≡ suc (j % m - 1) = omega arith in let r = ruler-moves m ms j (j % m - 1) b in omega arith
+      | yes e ↦ let r = ruler-carry m ms j e in omega arith
+      | no ne ↦ let b : j % m ≡ suc (j % m - 1) = omega arith in let r = ruler-no-carry m ms j (j % m - 1) b in omega arith
     ]
 
 -- m P divides j exactly if m divides it, and P the quotient
@@ -172,15 +171,15 @@ ruler-divides [] e j zero h = (λ l. mod-one j, λ z. ruler-pos [] j)
 ruler-divides [] e j (suc i) h = absurd (omega arith)
 ruler-divides (m ∷ ms) e j zero h = (λ l. mod-one j, λ z. ruler-pos (m ∷ ms) j)
 ruler-divides (m ∷ ms) e j (suc i) h =
-    let (first, others) = both (leb 1 m) (allFrom 1 ms) e in
+    let (first, others) = and-eq-true-iff (leb 1 m) (allFrom 1 ms) .0 e in
     let (apart, together) = divides-product j m (size (take i ms)) (leb-true 1 m first) (size-pos (take i ms) (allFrom-take 1 i ms others)) in
     let (there, back) = ruler-divides ms others (j / m) i (omega arith) in
     elim (ℕ-discrete (j % m) 0) [
       | yes z ↦
-          let r = ruler-turns m ms j z in
+          let r = ruler-carry m ms j z in
           (λ l. together (z, there (omega arith)), λ d. let b = back (apart d .1) in omega arith)
       | no ne ↦
           let b : j % m ≡ suc (j % m - 1) = omega arith in
-          let r = ruler-moves m ms j (j % m - 1) b in
+          let r = ruler-no-carry m ms j (j % m - 1) b in
           (λ l. absurd (omega arith), λ d. absurd (ne (apart d .0)))
     ]

@@ -3,13 +3,12 @@ use Prim.Native.Nat.{ℕ, zero, suc, _*_, _/_, _≤_, _<_}
 use native.Mathlib.Nat.{div-lt-iff-lt-mul, mul-assoc, mul-comm, mul-pos, one-mul}
 use native.Mathlib.Omega.{arith}
 use mathlib.Core.Path.{_≡_, refl, sym, ap, _∙_}
-use mathlib.Core.Bool.{true, _&&_}
+use mathlib.Core.Bool.{true, _&&_, and-eq-true-iff, and-assoc}
 use mathlib.Core.List.{List, [], _∷_, _++_}
 use borrow.Author.Tests.{leb-true, le-leb}
 use lib.Dec.{leb}
 use lib.ListN.{take}
 use Rattle.gray.specs.Radices.{size, allFrom}
-use Rattle.gray.specs.Bools.{both, and-assoc}
 
 -- ---- radices that are large enough
 pub allFrom-append : (k : ℕ) (a b : List ℕ) → allFrom k (a ++ b) ≡ allFrom k a && allFrom k b
@@ -21,7 +20,7 @@ pub allFrom-weaker : (k j : ℕ) (ms : List ℕ) → j ≤ k → allFrom k ms �
 unfolding allFrom
 allFrom-weaker k j [] h e = refl
 allFrom-weaker k j (m ∷ ms) h e =
-    let (first, others) = both (leb k m) (allFrom k ms) e in
+    let (first, others) = and-eq-true-iff (leb k m) (allFrom k ms) .0 e in
     let b : k ≤ m = leb-true k m first in
     rw (le-leb j m (omega arith)) (allFrom-weaker k j ms h others)
 
@@ -30,7 +29,7 @@ unfolding allFrom
 allFrom-take k zero ms e = refl
 allFrom-take k (suc i) [] e = refl
 allFrom-take k (suc i) (m ∷ ms) e =
-    let (first, others) = both (leb k m) (allFrom k ms) e in
+    let (first, others) = and-eq-true-iff (leb k m) (allFrom k ms) .0 e in
     rw first (allFrom-take k i ms others)
 
 -- ---- the product
@@ -43,7 +42,7 @@ pub size-pos : (ms : List ℕ) → allFrom 1 ms ≡ true → 0 < size ms
 unfolding allFrom size
 size-pos [] e = omega arith
 size-pos (m ∷ ms) e =
-    let (first, others) = both (leb 1 m) (allFrom 1 ms) e in
+    let (first, others) = and-eq-true-iff (leb 1 m) (allFrom 1 ms) .0 e in
     mul-pos (leb-true 1 m first) (size-pos ms others)
 
 -- a factor of a product that is above something is not 0

@@ -1,13 +1,13 @@
 -- Tests for equal numbers, changes, lists and answers, and that a test that passes shows the equation.
 use Prim.Native.Nat.{ℕ}
 use mathlib.Core.Path.{_≡_, refl, ap, ap₂}
-use mathlib.Core.Bool.{Bool, true, false, _&&_, Bool·beq}
+use mathlib.Core.Bool.{Bool, true, false, _&&_, Bool·beq, and-eq-true-iff}
 use mathlib.Core.List.{List, [], _∷_}
 use borrow.Author.Tests.{eqb-true}
 use lib.Dec.{eqb}
 use Rattle.gray.specs.Answers.{Answer, given, refused}
 use Rattle.gray.specs.Changes.{Change}
-use Rattle.gray.specs.Bools.{clash, both}
+use Rattle.gray.specs.Bools.{impossible}
 
 -- a test of equality
 pub record Test (A : Type 0) : Type 0 where
@@ -19,8 +19,8 @@ numbers = record { same = eqb; shows = eqb-true }
 
 showsBool : (a b : Bool) → Bool·beq a b ≡ true → a ≡ b
 showsBool true true e = refl
-showsBool true false e = clash (cc)
-showsBool false true e = clash (cc)
+showsBool true false e = impossible (cc)
+showsBool false true e = impossible (cc)
 showsBool false false e = refl
 
 abbrev pub sameChange : Change → Change → Bool
@@ -28,7 +28,7 @@ sameChange c d = eqb (c .digit) (d .digit) && Bool·beq (c .down) (d .down)
 
 pub showsChange : (c d : Change) → sameChange c d ≡ true → c ≡ d
 showsChange c d e =
-    let (digits, downs) = both (eqb (c .digit) (d .digit)) (Bool·beq (c .down) (d .down)) e in
+    let (digits, downs) = and-eq-true-iff (eqb (c .digit) (d .digit)) (Bool·beq (c .down) (d .down)) .0 e in
     ap₂ (λ n b. record { digit = n; down = b }) (eqb-true (c .digit) (d .digit) digits) (showsBool (c .down) (d .down) downs)
 
 abbrev pub changes : Test Change
@@ -43,10 +43,10 @@ module _ {A : Type 0} (t : Test A) where
 
   pub showsList : (l m : List A) → sameList l m ≡ true → l ≡ m
   showsList [] [] e = refl
-  showsList [] (b ∷ m) e = clash (cc)
-  showsList (a ∷ l) [] e = clash (cc)
+  showsList [] (b ∷ m) e = impossible (cc)
+  showsList (a ∷ l) [] e = impossible (cc)
   showsList (a ∷ l) (b ∷ m) e =
-      let (first, others) = both (t .same a b) (sameList l m) e in
+      let (first, others) = and-eq-true-iff (t .same a b) (sameList l m) .0 e in
       ap₂ (λ x y. x ∷ y) (t .shows a b first) (showsList l m others)
 
   abbrev pub sameAnswer : Answer A → Answer A → Bool
@@ -57,8 +57,8 @@ module _ {A : Type 0} (t : Test A) where
 
   pub showsAnswer : (x y : Answer A) → sameAnswer x y ≡ true → x ≡ y
   showsAnswer (given a) (given b) e = ap given (t .shows a b e)
-  showsAnswer (given a) (refused k) e = clash (cc)
-  showsAnswer (refused j) (given b) e = clash (cc)
+  showsAnswer (given a) (refused k) e = impossible (cc)
+  showsAnswer (refused j) (given b) e = impossible (cc)
   showsAnswer (refused j) (refused k) e = ap refused (eqb-true j k e)
 
   abbrev pub lists : Test (List A)

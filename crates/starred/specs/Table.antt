@@ -3,11 +3,10 @@
 use Prim.Native.Nat.{ℕ, zero, suc, _^_, _<_}
 use native.Mathlib.Omega.{arith}
 use mathlib.Core.Path.{_≡_, refl}
-use mathlib.Core.Bool.{Bool, true, false, cond, _&&_}
+use mathlib.Core.Bool.{Bool, true, false, cond, _&&_, and-eq-true-iff}
 use mathlib.Core.List.{List, [], _∷_, map}
 use lib.ListN.{length, getD, take, replicate}
 use Rattle.gray.specs.Answers.{given, refused}
-use Rattle.gray.specs.Bools.{both}
 use Rattle.gray.specs.Radices.{digits, bytes, size, allFrom}
 use Rattle.gray.specs.Words.{upward, downward, notches, through, list, isWord, rank}
 use Rattle.gray.specs.Changes.{Change, difference, change, ruler}
@@ -77,8 +76,8 @@ passes (r ∷ rs) = r .test .same (r .computed) (r .said) && passes rs
 each : (rs : List Row) → passes rs ≡ true → (i : ℕ) → i < length rs → Holds (getD rs i (row numbers 0 0))
 unfolding passes
 each [] e i h = absurd (omega arith)
-each (r ∷ rs) e zero h = r .test .shows (r .computed) (r .said) (both (r .test .same (r .computed) (r .said)) (passes rs) e .0)
-each (r ∷ rs) e (suc i) h = each rs (both (r .test .same (r .computed) (r .said)) (passes rs) e .1) i (omega arith)
+each (r ∷ rs) e zero h = r .test .shows (r .computed) (r .said) (and-eq-true-iff (r .test .same (r .computed) (r .said)) (passes rs) .0 e .0)
+each (r ∷ rs) e (suc i) h = each rs (and-eq-true-iff (r .test .same (r .computed) (r .said)) (passes rs) .0 e .1) i (omega arith)
 
 tested : passes table ≡ true
 unfolding passes table sizeCall rankCall size allFrom upward downward notches through list isWord rank difference ruler wholeParts

@@ -7,12 +7,13 @@ use native.Mathlib.Nat.{mod-lt}
 use native.Mathlib.Omega.{arith}
 use borrow.Author.Needs.{needs}
 use lib.ListN.{length, take, drop, length-set}
+use lib.Seq.{take-length}
 use Rattle.gray.specs.Radices.{digits, bytes}
 use Rattle.gray.specs.Words.{reflect}
 use Rattle.gray.specs.Members.{wordAt}
 use Rattle.gray.specs.Stages.{putWord}
 use Rattle.gray.specs.Ranks.{reflect-below}
-use Rattle.gray.specs.Digits.{radix-from, taken}
+use Rattle.gray.specs.Digits.{radix-from}
 use Rattle.gray.proofs.Laws.{put-more, put-all}
 use Rattle.gray.proofs.put_word.Statement.{statement}
 use Rattle.gray.proofs.put_word.Tie as tie
@@ -32,7 +33,7 @@ loop-holds c =
     let l = start .args .radices .now in (
       omega arith,
       refl,
-      ap (λ t. bytes (wordAt (digits t) (start .args .rank)) ++ drop (length l) (start .args .out .now)) (taken l (length l) (omega arith)),
+      ap (λ t. bytes (wordAt (digits t) (start .args .rank)) ++ drop (length l) (start .args .out .now)) (take-length l),
     )
 
 sub-i : tie.Need-sub-i Inv-loop μ-loop

@@ -10,22 +10,22 @@ use Rattle.gray.specs.Words.{even}
 use borrow.Author.Tests.{eq-eqb, ne-eqb}
 use mathlib.Core.Bool.{not}
 
-pub data Tick (m j : ℕ) : Type 0 where
-  moves : suc j / m ≡ j / m → suc j % m ≡ suc (j % m) → suc (j % m) < m → Tick m j
-  turns : suc j / m ≡ suc (j / m) → suc j % m ≡ 0 → suc (j % m) ≡ m → Tick m j
+pub data Increment (m j : ℕ) : Type 0 where
+  no-carry : suc j / m ≡ j / m → suc j % m ≡ suc (j % m) → suc (j % m) < m → Increment m j
+  carry : suc j / m ≡ suc (j / m) → suc j % m ≡ 0 → suc (j % m) ≡ m → Increment m j
 
-pub tick : (m j : ℕ) → 0 < m → Tick m j
-tick m j pos =
+pub increment : (m j : ℕ) → 0 < m → Increment m j
+increment m j pos =
     let split = div-add-mod' j m in
     let below : j % m < m = mod-lt j pos in
     elim (decLt (suc (j % m)) m) [
       | yes p ↦
           let e : suc j ≡ j / m * m + suc (j % m) = omega arith in
-          moves (ap (λ (n : ℕ). n / m) e ∙ digits-div (j / m) p) (ap (λ (n : ℕ). n % m) e ∙ digits-mod (j / m) p) p
+          no-carry (ap (λ (n : ℕ). n / m) e ∙ digits-div (j / m) p) (ap (λ (n : ℕ). n % m) e ∙ digits-mod (j / m) p) p
       | no q ↦
           let whole : suc (j % m) ≡ m = omega arith in
           let e : suc j ≡ suc (j / m) * m + 0 = omega arith in
-          turns
+          carry
           (ap (λ (n : ℕ). n / m) e ∙ digits-div (suc (j / m)) pos)
           (ap (λ (n : ℕ). n % m) e ∙ digits-mod (suc (j / m)) pos)
           whole
