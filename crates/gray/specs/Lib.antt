@@ -9,6 +9,8 @@ pub mod Changes
 pub mod Costs
 pub mod MoveBytes
 pub mod Calls
+pub mod Directions
+pub mod Engines
 -- theorems
 pub mod Members
 pub mod Ranks

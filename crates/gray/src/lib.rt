@@ -30,6 +30,19 @@ pub enum Written {
     Refused(u8),
 }
 
+// What opening an engine answers.
+pub enum Opening {
+    Open,
+    Refused(u8),
+}
+
+// What a call of an engine answers: the digit that it moved and whether that went down, the end of the walk, or a refusal.
+pub enum Stepping {
+    Moved(u8, bool),
+    End,
+    Refused(u8),
+}
+
 // A product of radices, within the limit of 2^62 or over it.
 enum Product {
     Within(u64),

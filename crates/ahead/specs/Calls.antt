@@ -1,0 +1,139 @@
+-- The buffered engine's calls (document 01, "The buffered engine"): what each hands back, for every state there is.
+use Prim.Native.Nat.{ℕ, _+_, _-_}
+use mathlib.Core.Bool.{Bool, true, false, cond, not}
+use mathlib.Core.List.{List, [], _∷_, _++_}
+use lib.Dec.{eqb}
+use lib.ListN.{length, getD, drop, set, replicate}
+use Rattle.gray.specs.Answers.{Answer, given, refused}
+use Rattle.gray.specs.Radices.{digits}
+use Rattle.gray.specs.Directions.{movedFrom, turnedAt}
+use Rattle.gray.specs.Engines.{Event, moved, ended, Handed, refusedWith, openingAs, steppingAs}
+use Rattle.ahead.specs.declared.Producer.{Producer}
+use Rattle.ahead.specs.declared.Walk.{Walk}
+use Rattle.ahead.specs.declared.Opened.{Opened}
+use Rattle.ahead.specs.declared.Stepped.{Stepped}
+use Rattle.ahead.specs.States.{survey, openCheck, inRange}
+use Rattle.ahead.specs.Work.{work}
+
+-- what the calls return, in document 01's terms
+abbrev pub openedAs : Opened → Handed Walk Unit
+openedAs r = record { state = r .walk; answer = openingAs (r .answer) }
+
+abbrev pub steppedAs : Stepped → Handed Walk Event
+steppedAs r = record { state = r .walk; answer = steppingAs (r .answer) }
+
+-- ---- opening
+-- an array of k places: the list, and zeros or the like after it
+abbrev pub filled : {A : Type 0} → ℕ → A → List A → List A
+filled k z l = l ++ replicate (k - length l) z
+
+-- the fresh state of the n radices in an array: the setting all 0, directions all up, the counter all 0, place 1, an empty queue,
+-- no changes made, no useful steps, not ended
+abbrev pub freshWith : List ℕ → ℕ → ℕ → Walk
+freshWith radices n c = record {
+  radices = radices;
+  n = n;
+  word = replicate 48 0;
+  capacity = c;
+  downs = replicate 48 false;
+  ended = false;
+  producer = record { counter = replicate 49 0; place = 1; queue = replicate 32 0; queued = 0; steps = 0 };
+  moves = 0;
+}
+
+unfoldable pub fresh : List ℕ → ℕ → Walk
+fresh ms c = freshWith (filled 48 0 ms) (length ms) c
+
+-- the state of no survey
+abbrev pub closedWalk : Walk
+closedWalk = fresh [] 0
+
+-- a refused opening hands back the state as it came, an accepted one the fresh state
+abbrev pub openWith : Walk → List ℕ → ℕ → Answer Unit → Handed Walk Unit
+openWith w ms c (given u) = record { state = fresh ms c; answer = given u }
+openWith w ms c (refused k) = refusedWith k w
+
+unfoldable pub openOf : Walk → List ℕ → ℕ → Handed Walk Unit
+openOf w radices c = openWith w (digits radices) c (openCheck (digits radices) c)
+
+-- ---- one call
+-- the producer after the two work steps of a call
+abbrev pub once : Walk → Producer
+once w = work (survey w) (w .capacity) (w .producer)
+
+abbrev pub twice : Walk → Producer
+twice w = work (survey w) (w .capacity) (once w)
+
+-- how a call goes: the state is out of range; the walk has ended already; the queue is empty at the removal, after two work steps;
+-- or the oldest entry is removed
+pub data Course : Type 0 where
+  faulty : Course
+  over : Course
+  dry : Course
+  removing : Course
+
+unfoldable pub course : Walk → Course
+course w =
+    cond (not (inRange w)) faulty
+    (cond (w .ended) over
+    (cond (eqb (twice w .queued) 0) dry removing))
+
+-- the queue stands with the oldest entry first; the others move up, and 0 comes in at the array's end
+unfoldable pub shorter : Producer → Producer
+shorter p = record {
+  counter = p .counter;
+  place = p .place;
+  queue = drop 1 (p .queue) ++ (0 ∷ []);
+  queued = p .queued - 1;
+  steps = p .steps;
+}
+
+-- the walk ends with the producer p
+unfoldable pub endOf : Walk → Producer → Handed Walk Event
+endOf w p = record {
+  state =
+      record {
+        radices = w .radices;
+        n = w .n;
+        word = w .word;
+        capacity = w .capacity;
+        downs = w .downs;
+        ended = true;
+        producer = p;
+        moves = w .moves;
+      };
+  answer = given ended;
+}
+
+-- digit k, at index k − 1, moves one notch in its direction, which turns if the digit is then at an end; j grows by 1
+abbrev pub notchAfter : Walk → ℕ → ℕ
+notchAfter w k = movedFrom (getD (w .word) (k - 1) 0) (getD (w .downs) (k - 1) false)
+
+unfoldable pub moveOf : Walk → ℕ → Producer → Handed Walk Event
+moveOf w k p = record {
+  state =
+      record {
+        radices = w .radices;
+        n = w .n;
+        word = set (w .word) (k - 1) (notchAfter w k);
+        capacity = w .capacity;
+        downs = set (w .downs) (k - 1) (turnedAt (getD (w .radices) (k - 1) 0) (notchAfter w k) (getD (w .downs) (k - 1) false));
+        ended = false;
+        producer = p;
+        moves = w .moves + 1;
+      };
+  answer = given (moved (record { digit = k; down = getD (w .downs) (k - 1) false }));
+}
+
+-- the oldest entry k is removed: n + 1 ends the walk, any other moves its digit
+abbrev pub removalOf : Walk → ℕ → Producer → Handed Walk Event
+removalOf w k p = cond (eqb k (w .n + 1)) (endOf w p) (moveOf w k p)
+
+abbrev pub stepBy : Walk → Course → Handed Walk Event
+stepBy w faulty = refusedWith 7 w
+stepBy w over = record { state = w; answer = given ended }
+stepBy w dry = refusedWith 10 w
+stepBy w removing = removalOf w (getD (twice w .queue) 0 0) (shorter (twice w))
+
+unfoldable pub stepOf : Walk → Handed Walk Event
+stepOf w = stepBy w (course w)

@@ -1,0 +1,69 @@
+-- Demand 3, as a statement about the whole run of calls from a walk: what work-ahead with c places promises. The theorem that
+-- every fresh walk keeps it stands in WorkAhead.
+use Prim.Native.Nat.{ℕ, suc, _+_, _*_, _≤_, _<_}
+use mathlib.Core.Path.{_≡_}
+use mathlib.Core.Bool.{true, false}
+use mathlib.Core.List.{List, _∷_, _++_}
+use lib.ListN.{length}
+use Rattle.gray.specs.Answers.{given, refused}
+use Rattle.gray.specs.Radices.{size}
+use Rattle.gray.specs.Costs.{cost}
+use Rattle.gray.specs.Engines.{ended, Names}
+use Rattle.ahead.specs.declared.Walk.{Walk}
+use Rattle.ahead.specs.States.{setting, inRange}
+use Rattle.ahead.specs.Work.{Work, append, runOut}
+use Rattle.ahead.specs.Calls.{once, twice, stepOf}
+use Rattle.ahead.specs.Runs.{state, answer, events, useful, appends, Accepting}
+
+-- (a) the queue holds at most c entries, before the call and after each of its work steps
+pub record Within (c : ℕ) (w : Walk) : Type 0 where
+  pub before : w .producer .queued ≤ c
+  pub first : once w .queued ≤ c
+  pub second : twice w .queued ≤ c
+
+-- (b) the useful step that appends an entry, with the work steps before it: it is the one that the step formula says, and entry j
+-- is finished in fewer than 2 j
+pub record Finished (ms : List ℕ) (before : List Work) : Type 0 where
+  pub formula : suc (useful before) ≡ cost ms (suc (appends before))
+  pub double : suc (useful before) < 2 * suc (appends before)
+
+-- (c) after t calls s is the number of useful steps, and with q entries in the queue, t + q is the last entry finished
+pub record Counted (ms : List ℕ) (w : Walk) (t : ℕ) : Type 0 where
+  pub steps : state w t .producer .steps ≡ useful (events w t)
+  pub entries : appends (events w t) ≡ t + state w t .producer .queued
+  pub reached : cost ms (t + state w t .producer .queued) ≤ state w t .producer .steps
+  pub not-next : state w t .producer .steps < cost ms (suc (t + state w t .producer .queued))
+
+-- call j names change j of the list, with the setting of rank j
+abbrev pub NamesChange : List ℕ → Walk → ℕ → Type 0
+NamesChange ms w j = Names stepOf setting ms w j
+
+-- (d) calls 1 to N − 1 name changes 1 to N − 1; call N and every later one answer end
+pub record WalksTheList (ms : List ℕ) (w : Walk) : Type 0 where
+  pub moves : (j : ℕ) → 1 ≤ j → j < size ms → NamesChange ms w j
+  pub end : (j : ℕ) → size ms ≤ j → answer w j ≡ given ended
+
+-- (e) there is a call d, at most call N: the calls before it name their changes, and it and every later one are dry
+pub record RunsDry (ms : List ℕ) (w : Walk) (d : ℕ) : Type 0 where
+  pub from-one : 1 ≤ d
+  pub within-N : d ≤ size ms
+  pub moves : (j : ℕ) → 1 ≤ j → j < d → NamesChange ms w j
+  pub dry : (j : ℕ) → d ≤ j → answer w j ≡ refused 10
+
+-- demand 3, for a walk with the radices ms and the capacity c, and every number of calls
+pub record WorksAhead (ms : List ℕ) (c : ℕ) (w : Walk) : Type 0 where
+  pub capacity : (t : ℕ) → Within c (state w t)
+  pub step-formula : (t : ℕ) (before later : List Work)
+      → events w t ≡ before ++ append ∷ later
+      → suc (appends before) ≤ size ms
+      → Finished ms before
+  pub counted : (t : ℕ) → t ≤ size ms → Accepting w t → Counted ms w t
+  pub never-dry : length ms ≤ 2 * c → WalksTheList ms w
+  pub dry-within-N : 2 * c < length ms → (d : ℕ) × RunsDry ms w d
+
+-- besides: every state of the run is in range, so that no call gets 7, and no work step of it meets the idle rule at the last place
+pub record StaysInRange (ms : List ℕ) (w : Walk) : Type 0 where
+  pub in-range : (t : ℕ) → inRange (state w t) ≡ true
+  pub never-7 : (j : ℕ) → answer w j ≡ refused 7 → ⊥
+  pub first : (t : ℕ) → state w t .ended ≡ false → runOut ms (state w t .producer) ≡ false
+  pub second : (t : ℕ) → state w t .ended ≡ false → runOut ms (once (state w t)) ≡ false

@@ -1,0 +1,73 @@
+-- The state of the buffered engine and when it is in range (document 01, "The buffered engine"). Its arrays have digit 1 first,
+-- and room for 48 digits; what they hold past digit n plays no part.
+use Prim.Native.Nat.{ℕ, _+_, _*_}
+use mathlib.Core.Bool.{Bool, true, false, cond, _&&_, _||_}
+use mathlib.Core.List.{List, [], _∷_, _++_}
+use lib.Dec.{eqb, ltb, leb}
+use lib.ListN.{length, getD, take}
+use Rattle.gray.specs.Answers.{Answer, given, refused, refusing}
+use Rattle.gray.specs.Radices.{size, ofRadices}
+use Rattle.gray.specs.Directions.{allBelow, inStance}
+use Rattle.ahead.specs.declared.Producer.{Producer}
+use Rattle.ahead.specs.declared.Walk.{Walk}
+
+-- ---- the survey
+-- refusal 5: the capacity is 0 or over 32
+abbrev pub wrongCapacity : ℕ → Bool
+wrongCapacity c = eqb c 0 || ltb 32 c
+
+-- the checks of an opening: refusals 2, 3, 4 of the survey, then 5
+abbrev pub openCheck : List ℕ → ℕ → Answer Unit
+openCheck ms c = ofRadices ms (refusing 5 (wrongCapacity c) (given tt))
+
+abbrev pub isGiven : {A : Type 0} → Answer A → Bool
+isGiven (given a) = true
+isGiven (refused k) = false
+
+-- the survey and the setting that a state holds
+abbrev pub survey : Walk → List ℕ
+survey w = take (w .n) (w .radices)
+
+abbrev pub setting : Walk → List ℕ
+setting w = take (w .n) (w .word)
+
+-- the counter's radices: m_1 .. m_n, and m_(n+1) = 2
+abbrev pub places : List ℕ → List ℕ
+places ms = ms ++ (2 ∷ [])
+
+-- ---- the range
+-- i lies in 1 to n + 1
+abbrev pub isPlace : List ℕ → ℕ → Bool
+isPlace ms i = leb 1 i && leb i (length ms + 1)
+
+-- b_i < m_i for every place
+abbrev pub counterInRange : List ℕ → List ℕ → Bool
+counterInRange ms counter = allBelow (length ms + 1) (λ i. ltb (getD counter i 0) (getD (places ms) i 0))
+
+-- every entry of the queue is a place
+abbrev pub entriesInRange : List ℕ → ℕ → List ℕ → Bool
+entriesInRange ms queued queue = allBelow queued (λ i. isPlace ms (getD queue i 0))
+
+-- what the range rule says of the part that work steps change
+unfoldable pub producing : List ℕ → ℕ → Producer → Bool
+producing ms c p =
+    counterInRange ms (p .counter)
+    && isPlace ms (p .place)
+    && entriesInRange ms (p .queued) (p .queue)
+    && leb (p .queued) c
+
+-- s is at most 2 j, or 2 j + 2 once the walk has ended
+abbrev pub stepLimit : ℕ → Bool → ℕ
+stepLimit j ended = 2 * j + cond ended 2 0
+
+-- document 01: the survey and c could be opened; each a_i < m_i; the direction is up at 0 and down at m_i − 1; b_i < m_i; i and
+-- the queue's entries lie in 1 to n + 1; the queue holds at most c; j ≤ N − 1; and s ≤ 2 j, or 2 j + 2 once ended. (A state has
+-- no room for more than 48 digits, whatever its n.)
+unfoldable pub inRange : Walk → Bool
+inRange w =
+    leb (w .n) 48
+    && isGiven (openCheck (survey w) (w .capacity))
+    && inStance (w .n) (w .radices) (w .word) (w .downs)
+    && producing (survey w) (w .capacity) (w .producer)
+    && ltb (w .moves) (size (survey w))
+    && leb (w .producer .steps) (stepLimit (w .moves) (w .ended))

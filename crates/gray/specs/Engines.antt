@@ -1,0 +1,51 @@
+-- What both engines have in common: their answers, and runs of calls in which each call gets the state that the one before it
+-- handed back.
+use Prim.Native.Nat.{ℕ, zero, suc, _-_}
+use mathlib.Core.Path.{_≡_}
+use mathlib.Core.List.{List}
+use Rattle.gray.specs.Answers.{Answer, given, refused}
+use Rattle.gray.specs.Words.{member}
+use Rattle.gray.specs.Changes.{Change, change}
+use Rattle.gray.specs.declared.Opening.{Opening}
+use Rattle.gray.specs.declared.Opening.the-variants.{Open, Refused}
+use Rattle.gray.specs.declared.Stepping.{Stepping}
+use Rattle.gray.specs.declared.Stepping.the-variants.{Moved, End, Refused as StepRefused}
+
+-- what an accepted call of an engine says: the change that it made, or that the walk has ended
+pub data Event : Type 0 where
+  moved : Change → Event
+  ended : Event
+
+-- ---- the answer enums: this paper's number and values for each case
+abbrev pub openingAs : Opening → Answer Unit
+openingAs Open = given tt
+openingAs (Refused k) = refused k
+
+abbrev pub steppingAs : Stepping → Answer Event
+steppingAs (Moved k d) = given (moved (record { digit = k; down = d }))
+steppingAs End = given ended
+steppingAs (StepRefused k) = refused k
+
+-- ---- calls on a state
+-- what a call hands back: the state and its answer
+pub record Handed (S A : Type 0) : Type 0 where
+  pub state : S
+  pub answer : Answer A
+
+-- a refusal: the state as it came
+abbrev pub refusedWith : {S A : Type 0} → ℕ → S → Handed S A
+refusedWith k s = record { state = s; answer = refused k }
+
+-- the state after t calls from s
+unfoldable pub after : {S : Type 0} → (S → Handed S Event) → S → ℕ → S
+after call s zero = s
+after call s (suc t) = call (after call s t) .state
+
+-- what call j answers, for j from 1
+abbrev pub answerOf : {S : Type 0} → (S → Handed S Event) → S → ℕ → Answer Event
+answerOf call s j = call (after call s (j - 1)) .answer
+
+-- call j names change j: it answers that digit and direction, and hands back the setting of rank j
+pub record Names {S : Type 0} (call : S → Handed S Event) (setting : S → List ℕ) (ms : List ℕ) (s : S) (j : ℕ) : Type 0 where
+  pub answers : answerOf call s j ≡ given (moved (change ms j))
+  pub hands-back : setting (after call s j) ≡ member ms j
