@@ -19,11 +19,14 @@ pub mod Bounds
 pub mod Packing
 pub mod RoundTrips
 pub mod Faults
+pub mod Turns
 -- laws
 pub mod Bools
 pub mod Sizes
 pub mod Increments
 pub mod Digits
 pub mod Refusals
+pub mod Stances
+pub mod Reversals
 -- what private functions answer
 pub mod Stages
