@@ -55,7 +55,6 @@ pub record WorksAhead (ms : List ℕ) (c : ℕ) (w : Walk) : Type 0 where
   pub capacity : (t : ℕ) → Within c (state w t)
   pub step-formula : (t : ℕ) (before later : List Work)
       → events w t ≡ before ++ append ∷ later
-      → suc (appends before) ≤ size ms
       → Finished ms before
   pub counted : (t : ℕ) → t ≤ size ms → Accepting w t → Counted ms w t
   pub never-dry : length ms ≤ 2 * c → WalksTheList ms w

@@ -5,7 +5,21 @@ pub mod States
 pub mod Work
 pub mod Calls
 pub mod Runs
--- what is promised of whole runs
+-- what is promised of whole runs, and the theorem
 pub mod Demand
+pub mod WorkAhead
+-- the run: its numbers and their invariants, the states that follow from them, one call, the events, the phases, the clauses
+pub mod Positions
+pub mod Canonical
+pub mod Ranged
+pub mod Rounds
+pub mod Tallies
+pub mod Phases
+pub mod Clauses
+-- laws
+pub mod Entries
+pub mod Counters
+pub mod Filled
+pub mod Openings
 -- what private functions ask for and answer
 pub mod Stages

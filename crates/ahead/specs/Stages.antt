@@ -1,11 +1,11 @@
 -- What private functions of the engine ask for and answer.
 use Prim.Native.Nat.{ℕ, _+_, _^_, _≤_, _<_}
 use mathlib.Core.Path.{_≡_}
-use mathlib.Core.Bool.{Bool, true}
+use mathlib.Core.Bool.{true}
 use mathlib.Core.List.{List}
-use lib.ListN.{length, getD, take}
+use lib.ListN.{length, take}
 use Rattle.gray.specs.Radices.{allFrom}
-use Rattle.gray.specs.Directions.{standsIn, inStance}
+use Rattle.gray.specs.Directions.{inStance}
 use Rattle.ahead.specs.declared.Producer.{Producer}
 use Rattle.ahead.specs.declared.Progress.{Progress}
 use Rattle.ahead.specs.declared.Walk.{Walk}

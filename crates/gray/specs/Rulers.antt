@@ -145,7 +145,7 @@ ruler-at-end (m ∷ ms) e =
     ∙ ap suc (ruler-at-end ms others)
 
 -- ---- the ruler function of document 004: 1 + the largest i for which m_1 .. m_i divides j
-ruler-pos : (ms : List ℕ) (j : ℕ) → 0 < ruler ms j
+pub ruler-pos : (ms : List ℕ) (j : ℕ) → 0 < ruler ms j
 ruler-pos [] j = unfold ruler in omega arith
 ruler-pos (m ∷ ms) j =
     elim (ℕ-discrete (j % m) 0) [

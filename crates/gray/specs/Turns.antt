@@ -1,5 +1,5 @@
 -- The directions that the walk from the start has at rank r, and how a move along the list changes word and directions.
-use Prim.Native.Nat.{ℕ, zero, suc, _+_, _-_, _/_, _%_, _≤_, _<_}
+use Prim.Native.Nat.{ℕ, zero, suc, _-_, _/_, _%_, _≤_, _<_}
 use native.Mathlib.Nat.{zero-div, zero-mod, div-eq-of-lt}
 use native.Mathlib.Numerals.{add-one}
 use native.Mathlib.Omega.{arith}
@@ -13,12 +13,12 @@ use lib.Seq.{getD-set-same}
 use Rattle.gray.specs.Radices.{size, allFrom}
 use Rattle.gray.specs.Words.{even, reflect}
 use Rattle.gray.specs.Changes.{Moves, Moves.up, Moves.down, Moves.next, ruler, descends}
-use Rattle.gray.specs.Directions.{movedFrom, turnedAt, standsIn, inStance}
+use Rattle.gray.specs.Directions.{movedFrom, turnedAt, standsIn}
 use Rattle.gray.specs.Members.{wordAt, length-wordAt}
 use Rattle.gray.specs.Rulers.{ruler-carry, ruler-no-carry, descends-carry, descends-no-carry, wordAt-moves, moves-within}
 use Rattle.gray.specs.Sizes.{quotient-below}
 use Rattle.gray.specs.Increments.{Increment, Increment.no-carry, Increment.carry, increment, even-suc}
-use Rattle.gray.specs.Stances.{Stands, says-stands, each-allBelow}
+use Rattle.gray.specs.Stances.{Stands, says-stands}
 
 -- digit 1 goes down where (r + 1) / m is odd, which turns it at its ends; the slower digits have the directions of rank r / m
 unfoldable pub downsAt : List ℕ → ℕ → List Bool
@@ -31,12 +31,10 @@ length-downsAt [] r = refl
 length-downsAt (m ∷ ms) r = ap suc (length-downsAt ms (r / m))
 
 -- ---- the start
-pub wordAt-start : (ms : List ℕ) → allFrom 1 ms ≡ true → wordAt ms 0 ≡ replicate (length ms) 0
-unfolding wordAt allFrom
-wordAt-start [] e = refl
-wordAt-start (m ∷ ms) e =
-    let (first, others) = and-eq-true-iff (leb 1 m) (allFrom 1 ms) .0 e in
-    rw (zero-div m, zero-mod m) (ap (λ (w : List ℕ). 0 ∷ w) (wordAt-start ms others))
+pub wordAt-start : (ms : List ℕ) → wordAt ms 0 ≡ replicate (length ms) 0
+unfolding wordAt
+wordAt-start [] = refl
+wordAt-start (m ∷ ms) = rw (zero-div m, zero-mod m) (ap (λ (w : List ℕ). 0 ∷ w) (wordAt-start ms))
 
 pub downsAt-start : (ms : List ℕ) → allFrom 2 ms ≡ true → downsAt ms 0 ≡ replicate (length ms) false
 unfolding downsAt allFrom
@@ -75,11 +73,6 @@ walk-stands (m ∷ ms) e r zero h =
 walk-stands (m ∷ ms) e r (suc i) h =
     let (first, others) = and-eq-true-iff (leb 2 m) (allFrom 2 ms) .0 e in
     walk-stands ms others (r / m) i (omega arith)
-
-pub walk-stance : (ms : List ℕ) → allFrom 2 ms ≡ true → (r : ℕ) → inStance (length ms) ms (wordAt ms r) (downsAt ms r) ≡ true
-walk-stance ms e r =
-    each-allBelow (length ms) (λ i. standsIn (getD ms i 0) (getD (wordAt ms r) i 0) (getD (downsAt ms r) i false))
-    (walk-stands ms e r)
 
 -- ---- a move along the list
 -- a word that is moved is the word with its digit's notch replaced

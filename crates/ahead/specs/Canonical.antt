@@ -1,0 +1,232 @@
+-- The states of a run from a fresh walk: each follows from how many entries are removed, t, how many are queued, k, and how many
+-- carries are made towards the next, p. What a work step, a removal and a call do with them.
+use Prim.Native.Nat.{ℕ, zero, suc, _+_, _-_, _*_, _<_}
+use native.Mathlib.Numerals.{add-one}
+use native.Mathlib.Decide.{decLt, ℕ-discrete}
+use native.Mathlib.Omega.{arith}
+use mathlib.Core.Path.{_≡_, refl, sym, ap, _∙_}
+use mathlib.Core.Bool.{Bool, false}
+use mathlib.Core.List.{List, [], _∷_, _++_}
+use borrow.Author.Tests.{eq-eqb, ne-eqb, lt-ltb, le-ltb}
+use lib.Dec.{eqb, ltb}
+use lib.ListN.{length, getD, set, length-append}
+use lib.Seq.{getD-append-seam}
+use Rattle.gray.specs.Radices.{size}
+use Rattle.gray.specs.Changes.{ruler}
+use Rattle.gray.specs.Members.{wordAt}
+use Rattle.gray.specs.Turns.{downsAt}
+use Rattle.ahead.specs.declared.Producer.{Producer}
+use Rattle.ahead.specs.declared.Walk.{Walk}
+use Rattle.ahead.specs.States.{places}
+use Rattle.ahead.specs.Work.{Work, carry, append, idle, countAt, radixAt, runOut, kind, done}
+use Rattle.ahead.specs.Calls.{filled}
+use Rattle.ahead.specs.Filled.{getD-filled, set-filled, filled-append}
+use Rattle.ahead.specs.Counters.{mixedDigits, cleared, length-mixedDigits, length-cleared, cleared-at, carry-test, carry-clears, append-counts, ruler-most, ruler-places, allFrom-places, length-places}
+use Rattle.ahead.specs.Positions.{Position, Worked, Worked.carried, Worked.appended, Worked.idled, Surveyed, stepsAt, one, gained, work-steps}
+
+-- ---- the entries queued
+-- entries t + 1 .. t + k
+unfoldable pub entries : List ℕ → ℕ → ℕ → List ℕ
+entries ms t zero = []
+entries ms t (suc k) = entries ms t k ++ (ruler ms (suc (t + k)) ∷ [])
+
+pub length-entries : (ms : List ℕ) (t k : ℕ) → length (entries ms t k) ≡ k
+unfolding entries
+length-entries ms t zero = refl
+length-entries ms t (suc k) = let l = length-entries ms t k in simp length-append (omega arith)
+
+-- the oldest entry, and the others
+pub entries-first : (ms : List ℕ) (t k : ℕ) → entries ms t (suc k) ≡ ruler ms (suc t) ∷ entries ms (suc t) k
+unfolding entries
+entries-first ms t zero = let e : t + 0 ≡ t = omega arith in rw e
+entries-first ms t (suc k) =
+    let e : suc (t + suc k) ≡ suc (suc t + k) = omega arith in
+    rw (entries-first ms t k, e)
+
+-- ---- the states
+abbrev pub producerAt : List ℕ → ℕ → ℕ → ℕ → Producer
+producerAt ms t k p = record {
+  counter = filled 49 0 (cleared p (mixedDigits (places ms) (t + k)));
+  place = suc p;
+  queue = filled 32 0 (entries ms t k);
+  queued = k;
+  steps = stepsAt ms t k p;
+}
+
+-- the walk after t calls, with the producer q
+abbrev pub walkAt : List ℕ → ℕ → ℕ → Bool → Producer → Walk
+walkAt ms c t over q = record {
+  radices = filled 48 0 ms;
+  n = length ms;
+  word = filled 48 0 (wordAt ms t);
+  capacity = c;
+  downs = filled 48 false (downsAt ms t);
+  ended = over;
+  producer = q;
+  moves = t;
+}
+
+-- states with equal parts are equal
+pub same-producer : {a a′ q q′ : List ℕ} {i i′ k k′ s s′ : ℕ}
+    → a ≡ a′
+    → i ≡ i′
+    → q ≡ q′
+    → k ≡ k′
+    → s ≡ s′
+    → _≡_ {A = Producer}
+    (record { counter = a; place = i; queue = q; queued = k; steps = s })
+    (record { counter = a′; place = i′; queue = q′; queued = k′; steps = s′ })
+same-producer a i q k s = cc
+
+pub same-walk : {ms word word′ : List ℕ} {downs downs′ : List Bool} {n c j j′ : ℕ} {over : Bool} {q q′ : Producer}
+    → word ≡ word′
+    → downs ≡ downs′
+    → q ≡ q′
+    → j ≡ j′
+    → _≡_ {A = Walk}
+    (record { radices = ms; n = n; word = word; capacity = c; downs = downs; ended = over; producer = q; moves = j })
+    (record { radices = ms; n = n; word = word′; capacity = c; downs = downs′; ended = over; producer = q′; moves = j′ })
+same-walk w d q j = cc
+
+-- ---- one work step
+-- a work step at t, k, p is the event e and comes to k′, p′
+pub record Does (ms : List ℕ) (c t k p : ℕ) (e : Work) (k′ p′ : ℕ) : Type 0 where
+  pub numbers : Worked ms c t k p e k′ p′
+  pub is-kind : kind ms c (producerAt ms t k p) ≡ e
+  pub leaves : done e (producerAt ms t k p) ≡ producerAt ms t k′ p′
+
+module _ (ms : List ℕ) (c : ℕ) (v : Surveyed ms c) (t k p : ℕ) (at : Position ms c t k p) (lasts : suc (t + k) < 2 * size ms) where
+  finished : List ℕ
+  finished = mixedDigits (places ms) (t + k)
+
+  long : length (cleared p finished) ≡ length ms + 1
+  unfolding finished
+  long =
+      let l = length-mixedDigits (places ms) (t + k) in
+      let m = length-places ms in
+      let r = ruler-most ms (suc (t + k)) in
+      let h = at .carries in
+      length-cleared p (mixedDigits (places ms) (t + k)) (omega arith) ∙ l ∙ m
+
+  place-within : p < length ms + 1
+  place-within = let r = ruler-most ms (suc (t + k)) in let h = at .carries in omega arith
+
+  index : suc p - 1 ≡ p
+  index = omega arith
+
+  count-is : countAt (producerAt ms t k p) ≡ getD finished p 0
+  unfolding finished
+  count-is =
+      let l = long in
+      let w = place-within in
+      ap (λ (i : ℕ). getD (filled 49 0 (cleared p finished)) i 0) index
+      ∙ getD-filled 49 0 (cleared p finished) p 0 (omega arith)
+      ∙ cleared-at p finished
+
+  -- b_i is m_i − 1 exactly if more carries are to come
+  test-is : eqb (countAt (producerAt ms t k p)) (radixAt ms (producerAt ms t k p) - 1) ≡ ltb (suc p) (ruler ms (suc (t + k)))
+  unfolding finished
+  test-is =
+      let w = place-within in
+      let l = length-places ms in
+      let r : ruler (places ms) (suc (t + k)) ≡ ruler ms (suc (t + k)) = ruler-places ms (one ms (v .two)) (t + k) lasts in
+      let h : p < ruler (places ms) (suc (t + k)) = rw r (at .carries) in
+      ap (λ (b : ℕ). eqb b (getD (places ms) (suc p - 1) 0 - 1)) count-is
+      ∙ ap (λ (i : ℕ). eqb (getD finished p 0) (getD (places ms) i 0 - 1)) index
+      ∙ carry-test (places ms) (allFrom-places 1 ms (omega arith) (one ms (v .two))) (t + k) p (omega arith) h
+      ∙ ap (λ (n : ℕ). ltb (suc p) n) r
+
+  -- at place n + 1 the radix is 2, and no carry goes beyond
+  pub not-run-out : runOut ms (producerAt ms t k p) ≡ false
+  not-run-out =
+      elim (ℕ-discrete p (length ms)) [
+        | no q ↦ rw (ne-eqb (suc p) (length ms + 1) (λ z. q (omega arith)))
+        | yes q ↦
+            let r = ruler-most ms (suc (t + k)) in
+            let two : getD (places ms) (suc p - 1) 0 ≡ 2 =
+            ap (λ (i : ℕ). getD (places ms) i 0) (index ∙ q) ∙ getD-append-seam ms 2 [] 0 in
+            let no-more : eqb (countAt (producerAt ms t k p)) (2 - 1) ≡ false =
+            ap (λ (m : ℕ). eqb (countAt (producerAt ms t k p)) (m - 1)) (sym two) ∙ test-is ∙ le-ltb (suc p) (ruler ms (suc (t + k))) (omega arith) in
+            rw (eq-eqb (suc p) (length ms + 1) (omega arith)) no-more
+      ]
+
+  -- the counter with one more place cleared
+  cleared-more : set (filled 49 0 (cleared p finished)) (suc p - 1) 0 ≡ filled 49 0 (cleared (suc p) finished)
+  unfolding finished
+  cleared-more =
+      let l = long in
+      let w = place-within in
+      let m = length-places ms in
+      let d = length-mixedDigits (places ms) (t + k) in
+      ap (λ (i : ℕ). set (filled 49 0 (cleared p finished)) i 0) index
+      ∙ set-filled 49 0 (cleared p finished) p 0 (omega arith)
+      ∙ ap (filled 49 0) (carry-clears p finished (omega arith))
+
+  -- the counter of one entry more
+  counted-more : suc p ≡ ruler ms (suc (t + k))
+      → set (filled 49 0 (cleared p finished)) (suc p - 1) (countAt (producerAt ms t k p) + 1)
+      ≡ filled 49 0 (cleared 0 (mixedDigits (places ms) (t + suc k)))
+  unfolding finished
+  counted-more last =
+      let l = long in
+      let w = place-within in
+      let m = length-places ms in
+      let r = ruler-places ms (one ms (v .two)) (t + k) lasts in
+      let e : suc (t + k) ≡ t + suc k = omega arith in
+      ap (λ (b : ℕ). set (filled 49 0 (cleared p finished)) (suc p - 1) (b + 1)) count-is
+      ∙ ap (λ (i : ℕ). set (filled 49 0 (cleared p finished)) i (getD finished p 0 + 1)) index
+      ∙ set-filled 49 0 (cleared p finished) p (getD finished p 0 + 1) (omega arith)
+      ∙ ap (filled 49 0) (append-counts (places ms) (allFrom-places 1 ms (omega arith) (one ms (v .two))) (t + k) p (omega arith) (last ∙ sym r))
+      ∙ ap (λ (j : ℕ). filled 49 0 (mixedDigits (places ms) j)) e
+
+  -- the queue with one entry more
+  queued-more : suc p ≡ ruler ms (suc (t + k)) → k < 32 → set (filled 32 0 (entries ms t k)) k (suc p) ≡ filled 32 0 (entries ms t (suc k))
+  unfolding entries
+  queued-more last room =
+      let l = length-entries ms t k in
+      ap (λ (i : ℕ). set (filled 32 0 (entries ms t k)) i (suc p)) (sym l)
+      ∙ filled-append 32 0 (entries ms t k) (suc p) (omega arith)
+      ∙ ap (λ (x : ℕ). filled 32 0 (entries ms t k ++ (x ∷ []))) last
+
+  carries-on : suc p < ruler ms (suc (t + k)) → Does ms c t k p carry k (suc p)
+  unfolding finished kind done
+  carries-on h =
+      record {
+        numbers = carried h;
+        is-kind = rw (not-run-out, test-is, lt-ltb (suc p) (ruler ms (suc (t + k))) h);
+        leaves = same-producer cleared-more (add-one (suc p)) refl refl (omega arith);
+      }
+
+  appends-one : suc p ≡ ruler ms (suc (t + k)) → k < c → Does ms c t k p append (suc k) 0
+  unfolding finished kind done
+  appends-one h room =
+      let cap = v .capacity in
+      let w : Worked ms c t k p append (suc k) 0 = appended h room in
+      let n : stepsAt ms t (suc k) 0 ≡ stepsAt ms t k p + 1 = unfold gained in work-steps (v .two) w in
+      record {
+        numbers = w;
+        is-kind = rw (not-run-out, test-is, le-ltb (suc p) (ruler ms (suc (t + k))) (omega arith), lt-ltb k c room);
+        leaves = same-producer (counted-more h) refl (queued-more h (omega arith)) (add-one k) (sym n);
+      }
+
+  stays-idle : suc p ≡ ruler ms (suc (t + k)) → k ≡ c → Does ms c t k p idle k p
+  unfolding finished kind done
+  stays-idle h full =
+      record {
+        numbers = idled h full;
+        is-kind = rw (not-run-out, test-is, le-ltb (suc p) (ruler ms (suc (t + k))) (omega arith), le-ltb k c (omega arith));
+        leaves = refl;
+      }
+
+  pub does : (e : Work) × (k′ : ℕ) × (p′ : ℕ) × Does ms c t k p e k′ p′
+  does =
+      let h = at .carries in
+      let f = at .fits in
+      elim (decLt (suc p) (ruler ms (suc (t + k)))) [
+        | yes more ↦ (carry, k, suc p, carries-on more)
+        | no last ↦
+            elim (decLt k c) [
+              | yes room ↦ (append, suc k, 0, appends-one (omega arith) room)
+              | no full ↦ (idle, k, p, stays-idle (omega arith) (omega arith))
+            ]
+      ]

@@ -1,0 +1,217 @@
+-- The clauses of demand 3, one by one, from the phases of a run.
+use Prim.Native.Nat.{ℕ, suc, _+_, _-_, _*_, _≤_, _<_}
+use native.Mathlib.Decide.{decLt}
+use native.Mathlib.Omega.{arith}
+use mathlib.Core.Path.{_≡_, refl, sym, ap, _∙_, subst}
+use mathlib.Core.Bool.{Bool, true, false, cond}
+use mathlib.Core.List.{List, _∷_, _++_}
+use borrow.Author.Tests.{ltb-true}
+use lib.Dec.{eqb, ltb}
+use lib.ListN.{length, getD}
+use Rattle.gray.specs.Answers.{given, refused}
+use Rattle.gray.specs.Bools.{impossible}
+use Rattle.gray.specs.Radices.{size}
+use Rattle.gray.specs.Engines.{ended}
+use Rattle.ahead.specs.declared.Producer.{Producer}
+use Rattle.ahead.specs.declared.Walk.{Walk}
+use Rattle.ahead.specs.States.{openCheck, isGiven, survey, inRange}
+use Rattle.ahead.specs.Work.{Work, carry, append, idle, countAt, radixAt, runOut, kind, done, work}
+use Rattle.ahead.specs.Calls.{fresh, once, twice, Course, course, shorter, endOf, moveOf, stepBy, stepOf}
+use Rattle.ahead.specs.Runs.{state, answer, events, Accepting}
+use Rattle.ahead.specs.Demand.{Within, Finished, Counted, NamesChange, WalksTheList, RunsDry, WorksAhead, StaysInRange}
+use Rattle.ahead.specs.Positions.{Position, Surveyed, stepsAt, steps-short}
+use Rattle.ahead.specs.Canonical.{producerAt, walkAt}
+use Rattle.ahead.specs.Rounds.{round, running, running-ranged}
+use Rattle.ahead.specs.Tallies.{Tallied, tally-finished}
+use Rattle.ahead.specs.Phases.{Still, still-on, Going, Dry, Ending, Phase, Phase.going, Phase.dried, Phase.over, phase}
+
+-- ---- (a) the capacity: a work step appends only where there is room
+done-within : (c : ℕ) (p : Producer) (out full room : Bool)
+    → (room ≡ true → p .queued < c)
+    → p .queued ≤ c
+    → done (cond out idle (cond full carry (cond room append idle))) p .queued ≤ c
+unfolding done
+done-within c p true full room has h = h
+done-within c p false true room has h = h
+done-within c p false false true has h = let r = has refl in omega arith
+done-within c p false false false has h = h
+
+work-within : (ms : List ℕ) (c : ℕ) (p : Producer) → p .queued ≤ c → work ms c p .queued ≤ c
+unfolding kind
+work-within ms c p h =
+    done-within c p (runOut ms p) (eqb (countAt p) (radixAt ms p - 1)) (ltb (p .queued) c) (ltb-true (p .queued) c) h
+
+within : (w : Walk) → w .producer .queued ≤ w .capacity → Within (w .capacity) w
+within w h =
+    let first : once w .queued ≤ w .capacity = work-within (survey w) (w .capacity) (w .producer) h in
+    record { before = h; first = first; second = work-within (survey w) (w .capacity) (once w) first }
+
+-- ---- no refusal 7
+removal-given : (w : Walk) (b : Bool) (k j : ℕ) (p : Producer) → cond b (endOf w p) (moveOf w k p) .answer ≡ refused j → ⊥
+unfolding endOf moveOf
+removal-given w true k j p e = impossible (cc)
+removal-given w false k j p e = impossible (cc)
+
+-- a call on a state in range is not refused with 7
+not-7 : (w : Walk) → inRange w ≡ true → stepOf w .answer ≡ refused 7 → ⊥
+unfolding stepOf course
+not-7 w r e = by (w .ended) (eqb (twice w .queued) 0) (rw r at e)
+  where
+    by : (over empty : Bool) → stepBy w (cond over Course.over (cond empty Course.dry Course.removing)) .answer ≡ refused 7 → ⊥
+    by true empty e = impossible (cc)
+    by false true e = let z : _≡_ {A = ℕ} 10 7 = cc in omega arith
+    by false false e = removal-given w (eqb (getD (twice w .queue) 0 0) (w .n + 1)) (getD (twice w .queue) 0 0) 7 (shorter (twice w)) e
+
+-- ---- the states of a run
+-- the rest of a run stands still
+rest : {w v : Walk} {t : ℕ} → Still w v t → (T : ℕ) → t ≤ T → (state w T ≡ v) × (events w T ≡ events w t)
+rest {w} {v} {t} s T h =
+    let e : t + (T - t) ≡ T = omega arith in
+    subst (λ (x : ℕ). (state w x ≡ v) × (events w x ≡ events w t)) e (still-on s (T - t))
+
+dry-from : {ms : List ℕ} {c : ℕ} {w v : Walk} {t : ℕ} → Dry ms c w v t → (j : ℕ) → suc t ≤ j → answer w j ≡ refused 10
+dry-from d j h = ap (λ (u : Walk). stepOf u .answer) (rest (d .still) (j - 1) (omega arith) .0) ∙ d .refuses
+
+end-from : {ms : List ℕ} {c last : ℕ} {w : Walk} → Ending ms c last w → (j : ℕ) → size ms ≤ j → answer w j ≡ given ended
+end-from {ms} {w = w} e j h =
+    elim (decLt (size ms) j) [
+      | yes later ↦ ap (λ (u : Walk). stepOf u .answer) (rest (e .still) (j - 1) (omega arith) .0) ∙ e .ends-again
+      | no here ↦ let same : size ms ≡ j = omega arith in subst (λ (i : ℕ). answer w i ≡ given ended) same (e .ends)
+    ]
+
+-- the state after T calls is that of a walk that goes on after t, or that of the end
+data Standing (ms : List ℕ) (c last : ℕ) (w : Walk) (T : ℕ) : Type 0 where
+  on-the-way : (t : ℕ) (g : Going ms c last w t)
+      → state w T ≡ running ms c t (g .k) (g .p)
+      → events w T ≡ events w t
+      → Standing ms c last w T
+  at-the-end : (e : Ending ms c last w)
+      → state w T ≡ walkAt ms c last true (producerAt ms (size ms) (e .k) (e .p))
+      → events w T ≡ events w (size ms)
+      → Standing ms c last w T
+
+standing : {ms : List ℕ} {c last : ℕ} {w : Walk} {T : ℕ} → Phase ms c last w T → Standing ms c last w T
+standing {T = T} (going g) = on-the-way T g (g .is-state) refl
+standing {T = T} (dried t u h g d) =
+    let (there, same) = rest (d .still) T (omega arith) in on-the-way t g (there ∙ sym (d .still .there) ∙ g .is-state) same
+standing {T = T} (over h e) = let (there, same) = rest (e .still) T h in at-the-end e there same
+
+module _ (ms : List ℕ) (c last : ℕ) (v : Surveyed ms c) (opens : isGiven (openCheck ms c) ≡ true) (whole : size ms ≡ suc last) where
+  run : (T : ℕ) → Phase ms c last (fresh ms c) T
+  run T = phase ms c last v opens whole T
+
+  -- (a)
+  keeps-capacity : (T : ℕ) → Within c (state (fresh ms c) T)
+  keeps-capacity T = by (standing (run T))
+    where
+      by : Standing ms c last (fresh ms c) T → Within c (state (fresh ms c) T)
+      by (on-the-way t g e same) = rw e (within (running ms c t (g .k) (g .p)) (g .at .fits))
+      by (at-the-end s e same) = rw e (within (walkAt ms c last true (producerAt ms (size ms) (s .k) (s .p))) (s .at .fits))
+
+  -- (b)
+  finishes : (T : ℕ) (before later : List Work) → events (fresh ms c) T ≡ before ++ append ∷ later → Finished ms before
+  finishes T before later here = by (standing (run T))
+    where
+      by : Standing ms c last (fresh ms c) T → Finished ms before
+      by (on-the-way t g e same) = tally-finished before later (v .two) (g .tallied) (sym same ∙ here)
+      by (at-the-end s e same) = tally-finished before later (v .two) (s .tallied) (sym same ∙ here)
+
+  -- (c)
+  counted-at : (t k p : ℕ) (w : Walk)
+      → Position ms c t k p
+      → Tallied ms t k p (events w t)
+      → state w t .producer ≡ producerAt ms t k p
+      → Counted ms w t
+  counted-at t k p w at r e =
+      let s : state w t .producer .steps ≡ stepsAt ms t k p = ap (λ (q : Producer). q .steps) e in
+      let q : state w t .producer .queued ≡ k = ap (λ (q : Producer). q .queued) e in
+      let short = steps-short (v .two) at in
+      record {
+        steps = s ∙ sym (r .steps);
+        entries = r .entries ∙ ap (λ (j : ℕ). t + j) (sym q);
+        reached = rw (q, s) (omega arith);
+        not-next = rw (q, s) short;
+      }
+
+  counts : (t : ℕ) → t ≤ size ms → Accepting (fresh ms c) t → Counted ms (fresh ms c) t
+  counts t most accepting = by (run t)
+    where
+      by : Phase ms c last (fresh ms c) t → Counted ms (fresh ms c) t
+      by (going g) = counted-at t (g .k) (g .p) (fresh ms c) (g .at) (g .tallied) (ap (λ (u : Walk). u .producer) (g .is-state))
+      by (dried d u h g r) = absurd (accepting (suc d) 10 (omega arith) (omega arith) (dry-from r (suc d) (omega arith)))
+      by (over h e) =
+          let same : size ms ≡ t = omega arith in
+          subst (Counted ms (fresh ms c)) same
+          (counted-at (size ms) (e .k) (e .p) (fresh ms c) (e .at) (e .tallied) (ap (λ (u : Walk). u .producer) (e .is-state)))
+
+  -- (d)
+  walks : length ms ≤ 2 * c → WalksTheList ms (fresh ms c)
+  walks enough = record { moves = λ j from to. names j from to (run j); end = λ j from. ends j from (run j) }
+    where
+      names : (j : ℕ) → 1 ≤ j → j < size ms → Phase ms c last (fresh ms c) j → NamesChange ms (fresh ms c) j
+      names j from to (going g) = g .named j from (omega arith)
+      names j from to (dried t u h g d) = let few = d .few in absurd (omega arith)
+      names j from to (over h e) = absurd (omega arith)
+
+      ends : (j : ℕ) → size ms ≤ j → Phase ms c last (fresh ms c) j → answer (fresh ms c) j ≡ given ended
+      ends j from (going g) = let below = g .below in absurd (omega arith)
+      ends j from (dried t u h g d) = let few = d .few in absurd (omega arith)
+      ends j from (over h e) = end-from e j from
+
+  -- (e)
+  dries : 2 * c < length ms → (d : ℕ) × RunsDry ms (fresh ms c) d
+  dries few = by (run (size ms))
+    where
+      by : Phase ms c last (fresh ms c) (size ms) → (d : ℕ) × RunsDry ms (fresh ms c) d
+      by (going g) = let below = g .below in absurd (omega arith)
+      by (dried t u h g d) = (
+        suc t,
+        record {
+          from-one = omega arith;
+          within-N = h;
+          moves = λ j from to. g .named j from (omega arith);
+          dry = λ j from. dry-from d j from;
+        },
+      )
+      by (over h e) = let enough = e .enough in absurd (omega arith)
+
+  pub run-works-ahead : WorksAhead ms c (fresh ms c)
+  run-works-ahead =
+      record {
+        capacity = keeps-capacity;
+        step-formula = finishes;
+        counted = counts;
+        never-dry = walks;
+        dry-within-N = dries;
+      }
+
+  -- ---- every state is in range, and the counter never runs out
+  ranged : (T : ℕ) → inRange (state (fresh ms c) T) ≡ true
+  ranged T = by (standing (run T))
+    where
+      by : Standing ms c last (fresh ms c) T → inRange (state (fresh ms c) T) ≡ true
+      by (on-the-way t g e same) = rw e (running-ranged ms c v opens t (g .k) (g .p) (g .at) (g .below) (g .low))
+      by (at-the-end s e same) = rw e (s .ranged)
+
+  lasts : (T : ℕ)
+      → state (fresh ms c) T .ended ≡ false
+      → (runOut ms (state (fresh ms c) T .producer) ≡ false) × (runOut ms (once (state (fresh ms c) T)) ≡ false)
+  lasts T not-over = by (standing (run T))
+    where
+      by : Standing ms c last (fresh ms c) T
+          → (runOut ms (state (fresh ms c) T .producer) ≡ false) × (runOut ms (once (state (fresh ms c) T)) ≡ false)
+      by (on-the-way t g e same) =
+          let r = round ms c v t (g .k) (g .p) (g .at) (g .below) (g .low) in (
+            ap (λ (u : Walk). runOut ms (u .producer)) e ∙ r .lasts-first,
+            ap (λ (u : Walk). runOut ms (once u)) e ∙ ap (runOut ms) (r .once-is) ∙ r .lasts-second,
+          )
+      by (at-the-end s e same) = let ends : true ≡ false = sym (ap (λ (u : Walk). u .ended) e) ∙ not-over in impossible (cc)
+
+  pub run-stays-in-range : StaysInRange ms (fresh ms c)
+  run-stays-in-range =
+      record {
+        in-range = ranged;
+        never-7 = λ j. not-7 (state (fresh ms c) (j - 1)) (ranged (j - 1));
+        first = λ T not-over. lasts T not-over .0;
+        second = λ T not-over. lasts T not-over .1;
+      }

@@ -1,0 +1,319 @@
+-- A run from a fresh walk, call by call: it goes on, or has run dry, or has ended; and from then on nothing changes.
+use Prim.Native.Nat.{ℕ, zero, suc, _+_, _-_, _*_, _≤_, _<_}
+use native.Mathlib.Decide.{decLt}
+use native.Mathlib.Omega.{arith}
+use mathlib.Core.Path.{_≡_, refl, sym, ap, ap₂, _∙_, subst}
+use mathlib.Core.Bool.{true, false}
+use mathlib.Core.List.{List, [], _∷_, _++_, append-nil}
+use lib.ListN.{length, replicate}
+use lib.Seq.{take-at}
+use Rattle.gray.specs.Answers.{given, refused}
+use Rattle.gray.specs.Radices.{size}
+use Rattle.gray.specs.Costs.{cost}
+use Rattle.gray.specs.Words.{member}
+use Rattle.gray.specs.Rulers.{ruler-pos}
+use Rattle.gray.specs.Members.{wordAt, length-wordAt, member-is-wordAt}
+use Rattle.gray.specs.Turns.{wordAt-start, downsAt-start}
+use Rattle.gray.specs.Engines.{Event, ended, Handed, refusedWith, after}
+use Rattle.ahead.specs.declared.Walk.{Walk}
+use Rattle.ahead.specs.States.{openCheck, isGiven, places, setting, inRange}
+use Rattle.ahead.specs.Work.{Work}
+use Rattle.ahead.specs.Calls.{filled, fresh, Course, removing, course, stepBy, stepOf}
+use Rattle.ahead.specs.Runs.{state, answer, eventsBy, events}
+use Rattle.ahead.specs.Demand.{NamesChange}
+use Rattle.ahead.specs.Filled.{filled-replicate}
+use Rattle.ahead.specs.Counters.{mixedDigits, mixed-start, length-places}
+use Rattle.ahead.specs.Entries.{cost-zero}
+use Rattle.ahead.specs.Positions.{Position, Surveyed, stepsAt, Ahead, Behind, work-position, work-steps, gain-small, ahead-fresh, ahead-work, ahead-remove, ahead-queued, behind-fresh, behind-work, behind-remove, behind-queued}
+use Rattle.ahead.specs.Canonical.{entries, same-producer, same-walk, producerAt, walkAt}
+use Rattle.ahead.specs.Ranged.{producer-ranged, state-ranged}
+use Rattle.ahead.specs.Rounds.{running, Round, round, dry-call, removing-call, move-call, end-call}
+use Rattle.ahead.specs.Tallies.{Tallied, tally-start, tally-twice, tally-remove}
+
+-- ---- when nothing changes any more
+-- the state after t calls is handed back by a call as it came, and no work step counts
+pub record Still (w v : Walk) (t : ℕ) : Type 0 where
+  pub there : state w t ≡ v
+  pub stays : stepOf v .state ≡ v
+  pub quiet : eventsBy v (course v) ≡ []
+
+pub still-on : {w v : Walk} {t : ℕ} → Still w v t → (x : ℕ) → (state w (t + x) ≡ v) × (events w (t + x) ≡ events w t)
+unfolding after events
+still-on {w} {v} {t} s zero = let z : t + 0 ≡ t = omega arith in rw z (s .there, refl)
+still-on {w} {v} {t} s (suc x) =
+    let z : t + suc x ≡ suc (t + x) = omega arith in
+    let (there, same) = still-on s x in
+    let none : eventsBy (state w (t + x)) (course (state w (t + x))) ≡ [] = ap (λ (u : Walk). eventsBy u (course u)) there ∙ s .quiet in
+    rw z
+    (ap (λ (u : Walk). stepOf u .state) there ∙ s .stays, ap (λ (l : List Work). events w (t + x) ++ l) none ∙ append-nil (events w (t + x)) ∙ same)
+
+-- ---- the run
+-- t calls are made, each has named its change, and the walk goes on; last is N − 1
+pub record Going (ms : List ℕ) (c last : ℕ) (w : Walk) (t : ℕ) : Type 0 where
+  pub k : ℕ
+  pub p : ℕ
+  pub at : Position ms c t k p
+  pub below : t < size ms
+  pub low : stepsAt ms t k p ≤ 2 * t
+  pub is-state : state w t ≡ running ms c t k p
+  pub ahead : length ms ≤ 2 * c → Ahead ms t 0 (stepsAt ms t k p)
+  pub behind : Behind ms c last t 0 (stepsAt ms t k p)
+  pub tallied : Tallied ms t k p (events w t)
+  pub named : (j : ℕ) → 1 ≤ j → j ≤ t → NamesChange ms w j
+
+-- the state v after t calls has an empty queue at the removal: the next call is dry, and so is every later one
+pub record Dry (ms : List ℕ) (c : ℕ) (w v : Walk) (t : ℕ) : Type 0 where
+  pub few : 2 * c < length ms
+  pub still : Still w v t
+  pub refuses : stepOf v .answer ≡ refused 10
+
+-- N calls are made, the last of which has ended the walk; every later one answers end
+pub record Ending (ms : List ℕ) (c last : ℕ) (w : Walk) : Type 0 where
+  pub k : ℕ
+  pub p : ℕ
+  pub at : Position ms c (size ms) k p
+  pub enough : length ms ≤ 2 * c
+  pub is-state : state w (size ms) ≡ walkAt ms c last true (producerAt ms (size ms) k p)
+  pub ranged : inRange (walkAt ms c last true (producerAt ms (size ms) k p)) ≡ true
+  pub still : Still w (walkAt ms c last true (producerAt ms (size ms) k p)) (size ms)
+  pub ends : answer w (size ms) ≡ given ended
+  pub ends-again : stepOf (walkAt ms c last true (producerAt ms (size ms) k p)) .answer ≡ given ended
+  pub tallied : Tallied ms (size ms) k p (events w (size ms))
+  pub named : (j : ℕ) → 1 ≤ j → j ≤ last → NamesChange ms w j
+
+-- ---- the start
+fresh-is : (ms : List ℕ) (c : ℕ) → Surveyed ms c → fresh ms c ≡ running ms c 0 0 0
+unfolding fresh entries
+fresh-is ms c v =
+    let m = v .most in
+    let l = length-places ms in
+    let word : replicate 48 0 ≡ filled 48 0 (wordAt ms 0) = sym (ap (filled 48 0) (wordAt-start ms) ∙ filled-replicate 48 0 (length ms) m) in
+    let downs = sym (ap (filled 48 false) (downsAt-start ms (v .two)) ∙ filled-replicate 48 false (length ms) m) in
+    let counter : replicate 49 0 ≡ filled 49 0 (mixedDigits (places ms) 0) =
+    sym (ap (filled 49 0) (mixed-start (places ms)) ∙ filled-replicate 49 0 (length (places ms)) (omega arith)) in
+    let z = cost-zero ms in
+    same-walk word downs (same-producer counter refl refl refl (omega arith)) refl
+
+pub going-start : (ms : List ℕ) (c last : ℕ) → Surveyed ms c → size ms ≡ suc last → Going ms c last (fresh ms c) 0
+unfolding after events
+going-start ms c last v whole =
+    let z = cost-zero ms in
+    let none : 0 ≡ stepsAt ms 0 0 0 = omega arith in
+    record {
+      k = 0;
+      p = 0;
+      at = record { fits = omega arith; carries = ruler-pos ms (suc (0 + 0)) };
+      below = omega arith;
+      low = omega arith;
+      is-state = fresh-is ms c v;
+      ahead = λ enough. subst (λ (s : ℕ). Ahead ms 0 0 s) none (ahead-fresh ms (v .two));
+      behind = subst (λ (s : ℕ). Behind ms c last 0 0 s) none (behind-fresh ms c last (v .place));
+      tallied = tally-start ms;
+      named = λ j from to. absurd (omega arith);
+    }
+
+-- ---- one call more
+remove-position : {ms : List ℕ} {c t k p : ℕ} → Position ms c t (suc k) p → Position ms c (suc t) k p
+remove-position {ms} {c} {t} {k} {p} at =
+    let e : t + suc k ≡ suc t + k = omega arith in
+    let f = at .fits in
+    record { fits = omega arith; carries = rw e at (at .carries) }
+
+-- the numbers after a call that removes an entry
+record Removed (ms : List ℕ) (c last t k p : ℕ) (es : List Work) : Type 0 where
+  at : Position ms c t k p
+  low : stepsAt ms t k p ≤ 2 * t
+  ahead : length ms ≤ 2 * c → Ahead ms t 0 (stepsAt ms t k p)
+  behind : Behind ms c last t 0 (stepsAt ms t k p)
+  tallied : Tallied ms t k p es
+
+-- the numbers before the removal
+record Worked-twice (ms : List ℕ) (c last t k p : ℕ) (es : List Work) : Type 0 where
+  at : Position ms c t k p
+  low : stepsAt ms t k p ≤ 2 * t + 2
+  ahead : length ms ≤ 2 * c → Ahead ms t 2 (stepsAt ms t k p)
+  behind : Behind ms c last t 2 (stepsAt ms t k p)
+  tallied : Tallied ms t k p es
+
+worked-twice : {ms : List ℕ} {c last t : ℕ} {w : Walk} → Surveyed ms c → (g : Going ms c last w t) (r : Round ms c t (g .k) (g .p))
+    → Worked-twice ms c last t (r .k₂) (r .p₂) (events w t ++ (r .e₁ ∷ r .e₂ ∷ []))
+worked-twice {ms} {c} {last} {t} {w} v g r =
+    let at₁ = work-position (g .at) (r .first) in
+    let n₁ = work-steps (v .two) (r .first) in
+    let n₂ = work-steps (v .two) (r .second) in
+    let g₁ = gain-small (r .e₁) in
+    let g₂ = gain-small (r .e₂) in
+    let low = g .low in
+    record {
+      at = work-position at₁ (r .second);
+      low = omega arith;
+      ahead = λ enough.
+          ahead-work 1 v enough (omega arith) (r .second) (ahead-work 0 v enough (omega arith) (r .first) (g .ahead enough));
+      behind = behind-work last 1 (v .two) at₁ (r .second) (behind-work last 0 (v .two) (g .at) (r .first) (g .behind));
+      tallied = tally-twice (v .two) (r .first) (r .second) (g .tallied);
+    }
+
+removed : {ms : List ℕ} {c last t k p : ℕ} {es : List Work} → Worked-twice ms c last t (suc k) p es → Removed ms c last (suc t) k p es
+removed {ms} {c} {last} {t} {k} {p} n =
+    let e : t + suc k ≡ suc t + k = omega arith in
+    let same : stepsAt ms t (suc k) p ≡ stepsAt ms (suc t) k p = ap (λ (j : ℕ). cost ms j + p) e in
+    let low = n .low in
+    record {
+      at = remove-position (n .at);
+      low = omega arith;
+      ahead = λ enough. rw same at (ahead-remove ms t (stepsAt ms t (suc k) p) (n .ahead enough));
+      behind = rw same at (behind-remove ms c last t (stepsAt ms t (suc k) p) (n .behind));
+      tallied = tally-remove (n .tallied);
+    }
+
+-- what the next call comes to
+pub data Next (ms : List ℕ) (c last : ℕ) (w : Walk) (t : ℕ) : Type 0 where
+  goes-on : Going ms c last w (suc t) → Next ms c last w t
+  runs-dry : (v : Walk) → Dry ms c w v t → Next ms c last w t
+  comes-to-end : suc t ≡ size ms → Ending ms c last w → Next ms c last w t
+
+module _ (ms : List ℕ) (c last : ℕ) (v : Surveyed ms c) (opens : isGiven (openCheck ms c) ≡ true) (whole : size ms ≡ suc last) (w : Walk) (t : ℕ) (g : Going ms c last w t) where
+  now : Walk
+  now = running ms c t (g .k) (g .p)
+
+  -- the work steps of the call, if it removes an entry
+  events-then : (r : Round ms c t (g .k) (g .p))
+      → course (running ms c t (g .k) (g .p)) ≡ removing
+      → events w (suc t) ≡ events w t ++ (r .e₁ ∷ r .e₂ ∷ [])
+  unfolding events
+  events-then r e =
+      ap (λ (u : Walk). events w t ++ eventsBy u (course u)) (g .is-state)
+      ∙ ap (λ (o : Course). events w t ++ eventsBy (running ms c t (g .k) (g .p)) o) e
+      ∙ ap (λ (l : List Work). events w t ++ l) (r .events-are)
+
+  dry-next : (r : Round ms c t (g .k) (g .p)) → r .k₂ ≡ 0 → Dry ms c w now t
+  unfolding now stepOf
+  dry-next r none =
+      let e = dry-call ms c v opens t (g .k) (g .p) (g .at) (g .below) (g .low) r none in
+      let n = worked-twice v g r in
+      let step : stepOf now ≡ refusedWith 10 now = ap (stepBy now) e in
+      record {
+        few =
+            elim (decLt (2 * c) (length ms)) [
+              | yes few ↦ few
+              | no enough ↦ let some = ahead-queued (v .two) (n .at) (g .below) (n .ahead (omega arith)) in absurd (omega arith)
+            ];
+        still = record { there = g .is-state; stays = ap (λ (h : Handed Walk Event). h .state) step; quiet = ap (eventsBy now) e };
+        refuses = ap (λ (h : Handed Walk Event). h .answer) step;
+      }
+
+  step-then : {h : Handed Walk Event} → stepOf now ≡ h → (state w (suc t) ≡ h .state) × (answer w (suc t) ≡ h .answer)
+  unfolding now after
+  step-then e =
+      let here : stepOf (state w t) ≡ stepOf now = ap stepOf (g .is-state) in
+      let before : suc t - 1 ≡ t = omega arith in (
+        ap (λ (h : Handed Walk Event). h .state) (here ∙ e),
+        ap (λ (i : ℕ). stepOf (state w i) .answer) before ∙ ap (λ (h : Handed Walk Event). h .answer) (here ∙ e),
+      )
+
+  move-next : (r : Round ms c t (g .k) (g .p)) (k′ : ℕ) → r .k₂ ≡ suc k′ → suc t < size ms → Going ms c last w (suc t)
+  unfolding now
+  move-next r k′ some more =
+      let step = move-call ms c v opens t (g .k) (g .p) (g .at) (g .below) (g .low) r k′ some more in
+      let (there, says) = step-then step in
+      let e = events-then r (removing-call ms c v opens t (g .k) (g .p) (g .at) (g .below) (g .low) r k′ some) in
+      let n = removed (subst (λ (k : ℕ). Worked-twice ms c last t k (r .p₂) (events w t ++ (r .e₁ ∷ r .e₂ ∷ []))) some (worked-twice v g r)) in
+      let back : setting (state w (suc t)) ≡ member ms (suc t) =
+      ap setting there
+      ∙ take-at (wordAt ms (suc t)) (replicate (48 - length (wordAt ms (suc t))) 0) (length ms) (length-wordAt ms (suc t))
+      ∙ sym (member-is-wordAt ms (suc t) more) in
+      record {
+        k = k′;
+        p = r .p₂;
+        at = n .at;
+        below = more;
+        low = n .low;
+        is-state = there;
+        ahead = n .ahead;
+        behind = n .behind;
+        tallied = rw e (n .tallied);
+        named = λ j from to.
+            elim (decLt j (suc t)) [
+              | yes before ↦ g .named j from (omega arith)
+              | no here ↦ let same : suc t ≡ j = omega arith in subst (NamesChange ms w) same (record { answers = says; hands-back = back })
+            ];
+      }
+
+  end-next : (r : Round ms c t (g .k) (g .p)) (k′ : ℕ) → r .k₂ ≡ suc k′ → suc t ≡ size ms → Ending ms c last w
+  unfolding now course stepOf
+  end-next r k′ some end =
+      let step = end-call ms c v opens t (g .k) (g .p) (g .at) (g .below) (g .low) r k′ some end in
+      let (there, says) = step-then step in
+      let e = events-then r (removing-call ms c v opens t (g .k) (g .p) (g .at) (g .below) (g .low) r k′ some) in
+      let two : Worked-twice ms c last t (suc k′) (r .p₂) (events w t ++ (r .e₁ ∷ r .e₂ ∷ [])) =
+      subst (λ (k : ℕ). Worked-twice ms c last t k (r .p₂) (events w t ++ (r .e₁ ∷ r .e₂ ∷ []))) some (worked-twice v g r) in
+      let n = removed two in
+      let here : t ≡ last = omega arith in
+      let stop : Walk = walkAt ms c last true (producerAt ms (size ms) k′ (r .p₂)) in
+      let reach : walkAt ms c t true (producerAt ms (suc t) k′ (r .p₂)) ≡ stop =
+      ap₂ (λ (a b : ℕ). walkAt ms c a true (producerAt ms b k′ (r .p₂))) here end in
+      let at : Position ms c (size ms) k′ (r .p₂) = subst (λ (j : ℕ). Position ms c j k′ (r .p₂)) end (n .at) in
+      let low = n .low in
+      let same : stepsAt ms (suc t) k′ (r .p₂) ≡ stepsAt ms (size ms) k′ (r .p₂) = ap (λ (j : ℕ). stepsAt ms j k′ (r .p₂)) end in
+      let ranged : inRange stop ≡ true =
+      state-ranged ms c last true (producerAt ms (size ms) k′ (r .p₂)) v opens (omega arith) (producer-ranged ms c v (size ms) k′ (r .p₂) at) (omega arith) in
+      let again : course stop ≡ Course.over = rw ranged in
+      let stays : stepOf stop ≡ record { state = stop; answer = given ended } = ap (stepBy stop) again in
+      let arrives : state w (size ms) ≡ stop = ap (state w) (sym end) ∙ there ∙ reach in
+      record {
+        k = k′;
+        p = r .p₂;
+        at = at;
+        enough = behind-queued last (v .two) (two .at) whole here (omega arith) (two .behind);
+        is-state = arrives;
+        ranged = ranged;
+        still = record { there = arrives; stays = ap (λ (h : Handed Walk Event). h .state) stays; quiet = ap (eventsBy stop) again };
+        ends = ap (answer w) (sym end) ∙ says;
+        ends-again = ap (λ (h : Handed Walk Event). h .answer) stays;
+        tallied = subst (λ (j : ℕ). Tallied ms j k′ (r .p₂) (events w j)) end (rw e (n .tallied));
+        named = λ j from to. g .named j from (omega arith);
+      }
+
+  pub next-call : Next ms c last w t
+  next-call = by (round ms c v t (g .k) (g .p) (g .at) (g .below) (g .low))
+    where
+      removing-next : (r : Round ms c t (g .k) (g .p)) (k′ : ℕ) → r .k₂ ≡ suc k′ → Next ms c last w t
+      removing-next r k′ some =
+          let below = g .below in
+          elim (decLt (suc t) (size ms)) [
+            | yes more ↦ goes-on (move-next r k′ some more)
+            | no end ↦ comes-to-end (omega arith) (end-next r k′ some (omega arith))
+          ]
+
+      on : (r : Round ms c t (g .k) (g .p)) (k₂ : ℕ) → r .k₂ ≡ k₂ → Next ms c last w t
+      on r zero none = runs-dry now (dry-next r none)
+      on r (suc k′) some = removing-next r k′ some
+
+      by : Round ms c t (g .k) (g .p) → Next ms c last w t
+      by r = on r (r .k₂) refl
+
+-- ---- the whole run
+-- after any number of calls the walk goes on, has run dry after t calls, or has ended
+pub data Phase (ms : List ℕ) (c last : ℕ) (w : Walk) (T : ℕ) : Type 0 where
+  going : Going ms c last w T → Phase ms c last w T
+  dried : (t : ℕ) (v : Walk) → t < T → Going ms c last w t → Dry ms c w v t → Phase ms c last w T
+  over : size ms ≤ T → Ending ms c last w → Phase ms c last w T
+
+pub phase : (ms : List ℕ) (c last : ℕ)
+    → Surveyed ms c
+    → isGiven (openCheck ms c) ≡ true
+    → size ms ≡ suc last
+    → (T : ℕ)
+    → Phase ms c last (fresh ms c) T
+phase ms c last v opens whole zero = going (going-start ms c last v whole)
+phase ms c last v opens whole (suc T) = after-one (phase ms c last v opens whole T)
+  where
+    onward : Going ms c last (fresh ms c) T → Next ms c last (fresh ms c) T → Phase ms c last (fresh ms c) (suc T)
+    onward g (goes-on g′) = going g′
+    onward g (runs-dry u d) = dried T u (omega arith) g d
+    onward g (comes-to-end e s) = over (omega arith) s
+
+    after-one : Phase ms c last (fresh ms c) T → Phase ms c last (fresh ms c) (suc T)
+    after-one (going g) = onward g (next-call ms c last v opens whole (fresh ms c) T g)
+    after-one (dried t u h g d) = dried t u (omega arith) g d
+    after-one (over h s) = over (omega arith) s

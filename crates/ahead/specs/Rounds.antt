@@ -1,0 +1,200 @@
+-- One call on a state of the run: its two work steps, and the removal.
+use Prim.Native.Nat.{ℕ, suc, _+_, _-_, _*_, _≤_, _<_}
+use native.Mathlib.Numerals.{add-one}
+use native.Mathlib.Omega.{arith}
+use mathlib.Core.Path.{_≡_, refl, sym, ap, ap₂, _∙_}
+use mathlib.Core.Bool.{Bool, true, false, cond}
+use mathlib.Core.List.{List, [], _∷_, _++_}
+use borrow.Author.Tests.{eq-eqb, ne-eqb}
+use lib.Dec.{eqb}
+use lib.ListN.{length, getD, drop}
+use Rattle.gray.specs.Answers.{given}
+use Rattle.gray.specs.Radices.{size}
+use Rattle.gray.specs.Changes.{change, ruler}
+use Rattle.gray.specs.Costs.{cost}
+use Rattle.gray.specs.Members.{wordAt, length-wordAt}
+use Rattle.gray.specs.Rulers.{change-is-ruler, ruler-at-end}
+use Rattle.gray.specs.Directions.{movedFrom, turnedAt}
+use Rattle.gray.specs.Turns.{downsAt, length-downsAt, Advances, walk-advances}
+use Rattle.gray.specs.Engines.{moved, ended}
+use Rattle.ahead.specs.declared.Producer.{Producer}
+use Rattle.ahead.specs.declared.Walk.{Walk}
+use Rattle.ahead.specs.States.{openCheck, isGiven, survey, places, inRange}
+use Rattle.ahead.specs.Work.{Work, runOut, kind, done, work}
+use Rattle.ahead.specs.Calls.{filled, once, twice, dry, removing, course, shorter, endOf, moveOf, removalOf, stepBy, stepOf}
+use Rattle.ahead.specs.Runs.{eventsBy}
+use Rattle.ahead.specs.Filled.{take-filled, getD-filled, set-filled, filled-drop}
+use Rattle.ahead.specs.Counters.{mixedDigits, cleared}
+use Rattle.ahead.specs.Positions.{Position, Worked, Surveyed, stepsAt, one, work-position, work-steps, gain-small, counter-lasts}
+use Rattle.ahead.specs.Canonical.{entries, length-entries, entries-first, same-producer, same-walk, producerAt, walkAt, Does, does, not-run-out}
+use Rattle.ahead.specs.Ranged.{producer-ranged, state-ranged}
+
+-- the state of a running walk
+abbrev pub running : List ℕ → ℕ → ℕ → ℕ → ℕ → Walk
+running ms c t k p = walkAt ms c t false (producerAt ms t k p)
+
+-- ---- the two work steps of a call
+pub record Round (ms : List ℕ) (c t k p : ℕ) : Type 0 where
+  pub e₁ : Work
+  pub k₁ : ℕ
+  pub p₁ : ℕ
+  pub e₂ : Work
+  pub k₂ : ℕ
+  pub p₂ : ℕ
+  pub first : Worked ms c t k p e₁ k₁ p₁
+  pub second : Worked ms c t k₁ p₁ e₂ k₂ p₂
+  pub events-are : eventsBy (running ms c t k p) removing ≡ e₁ ∷ e₂ ∷ []
+  pub once-is : once (running ms c t k p) ≡ producerAt ms t k₁ p₁
+  pub twice-is : twice (running ms c t k p) ≡ producerAt ms t k₂ p₂
+  pub lasts-first : runOut ms (producerAt ms t k p) ≡ false
+  pub lasts-second : runOut ms (producerAt ms t k₁ p₁) ≡ false
+
+work-is : {ms : List ℕ} {c t k p : ℕ} {e : Work} {k′ p′ : ℕ}
+    → Does ms c t k p e k′ p′
+    → work ms c (producerAt ms t k p) ≡ producerAt ms t k′ p′
+work-is {ms} {c} {t} {k} {p} d = ap (λ (e : Work). done e (producerAt ms t k p)) (d .is-kind) ∙ d .leaves
+
+joined : {ms : List ℕ} {c t k p : ℕ} {e₁ e₂ : Work} {k₁ p₁ k₂ p₂ : ℕ}
+    → Does ms c t k p e₁ k₁ p₁
+    → Does ms c t k₁ p₁ e₂ k₂ p₂
+    → runOut ms (producerAt ms t k p) ≡ false
+    → runOut ms (producerAt ms t k₁ p₁) ≡ false
+    → Round ms c t k p
+joined {ms} {c} {t} {k} {p} {e₁} {e₂} {k₁} {p₁} {k₂} {p₂} d₁ d₂ r₁ r₂ =
+    let w : Walk = running ms c t k p in
+    let s : survey w ≡ ms = take-filled 48 0 ms in
+    let o : once w ≡ producerAt ms t k₁ p₁ = ap (λ (l : List ℕ). work l c (producerAt ms t k p)) s ∙ work-is d₁ in
+    let kind₁ : kind (survey w) c (producerAt ms t k p) ≡ e₁ = ap (λ (l : List ℕ). kind l c (producerAt ms t k p)) s ∙ d₁ .is-kind in
+    let kind₂ : kind (survey w) c (once w) ≡ e₂ = ap₂ (λ (l : List ℕ) (q : Producer). kind l c q) s o ∙ d₂ .is-kind in
+    record {
+      e₁ = e₁;
+      k₁ = k₁;
+      p₁ = p₁;
+      e₂ = e₂;
+      k₂ = k₂;
+      p₂ = p₂;
+      first = d₁ .numbers;
+      second = d₂ .numbers;
+      events-are = ap₂ (λ (a b : Work). a ∷ b ∷ []) kind₁ kind₂;
+      once-is = o;
+      twice-is = ap₂ (λ (l : List ℕ) (q : Producer). work l c q) s o ∙ work-is d₂;
+      lasts-first = r₁;
+      lasts-second = r₂;
+    }
+
+pub round : (ms : List ℕ) (c : ℕ)
+    → Surveyed ms c
+    → (t k p : ℕ)
+    → Position ms c t k p
+    → t < size ms
+    → stepsAt ms t k p ≤ 2 * t
+    → Round ms c t k p
+round ms c v t k p at below low =
+    let lasts = counter-lasts v at (omega arith) in
+    let (e₁, k₁, p₁, d₁) = does ms c v t k p at lasts in
+    let at₁ : Position ms c t k₁ p₁ = work-position at (d₁ .numbers) in
+    let g = gain-small e₁ in
+    let n = work-steps (v .two) (d₁ .numbers) in
+    let lasts₁ = counter-lasts v at₁ (omega arith) in
+    let (e₂, k₂, p₂, d₂) = does ms c v t k₁ p₁ at₁ lasts₁ in
+    joined d₁ d₂ (not-run-out ms c v t k p at lasts) (not-run-out ms c v t k₁ p₁ at₁ lasts₁)
+
+-- ---- the removal
+-- the oldest entry, and the producer without it
+oldest : (ms : List ℕ) (t k : ℕ) → getD (filled 32 0 (entries ms t (suc k))) 0 0 ≡ ruler ms (suc t)
+oldest ms t k = ap (λ (l : List ℕ). getD (filled 32 0 l) 0 0) (entries-first ms t k)
+
+shorter-is : (ms : List ℕ) (t k p : ℕ) → k < 32 → shorter (producerAt ms t (suc k) p) ≡ producerAt ms (suc t) k p
+unfolding shorter
+shorter-is ms t k p room =
+    let e : t + suc k ≡ suc t + k = omega arith in
+    let l = length-entries ms (suc t) k in
+    same-producer
+    (ap (λ (j : ℕ). filled 49 0 (cleared p (mixedDigits (places ms) j))) e)
+    refl
+    (ap (λ (q : List ℕ). drop 1 (filled 32 0 q) ++ (0 ∷ [])) (entries-first ms t k) ∙ filled-drop 32 0 (ruler ms (suc t)) (entries ms (suc t) k) (omega arith))
+    (omega arith)
+    (ap (λ (j : ℕ). cost ms j + p) e)
+
+-- the entry of a digit moves it as the list says
+move-is : (ms : List ℕ) (c t i : ℕ) (q left : Producer)
+    → Advances ms t i
+    → suc t < size ms
+    → moveOf (walkAt ms c t false q) (suc i) left
+    ≡ record { state = walkAt ms c (suc t) false left; answer = given (moved (change ms (suc t))) }
+unfolding moveOf
+move-is ms c t i q left a below =
+    let index : suc i - 1 ≡ i = omega arith in
+    let w = length-wordAt ms t in
+    let d = length-downsAt ms t in
+    let inside = a .within in
+    let named : change ms (suc t) ≡ record { digit = suc i; down = getD (downsAt ms t) i false } =
+    change-is-ruler ms t below .0 ∙ ap₂ (λ (k : ℕ) (b : Bool). record { digit = k; down = b }) (a .digit) (sym (a .direction)) in
+    let notch = getD-filled 48 0 (wordAt ms t) i 0 (omega arith) in
+    let turn = getD-filled 48 false (downsAt ms t) i false (omega arith) in
+    let radix = getD-filled 48 0 ms i 0 inside in
+    let to : ℕ = movedFrom (getD (wordAt ms t) i 0) (getD (downsAt ms t) i false) in
+    let down : Bool = turnedAt (getD ms i 0) to (getD (downsAt ms t) i false) in
+    rw (index, notch, turn, radix, named)
+    (ap (λ (u : Walk). record { state = u; answer = given (moved (record { digit = suc i; down = getD (downsAt ms t) i false })) })
+    (same-walk
+    (set-filled 48 0 (wordAt ms t) i to (omega arith) ∙ ap (filled 48 0) (a .word))
+    (set-filled 48 false (downsAt ms t) i down (omega arith) ∙ ap (filled 48 false) (a .downs))
+    refl
+    (add-one t)))
+
+-- ---- one call
+-- a call on a running state goes as its queue has it after the two work steps
+module _ (ms : List ℕ) (c : ℕ) (v : Surveyed ms c) (opens : isGiven (openCheck ms c) ≡ true) (t k p : ℕ) (at : Position ms c t k p) (below : t < size ms) (low : stepsAt ms t k p ≤ 2 * t) where
+  pub running-ranged : inRange (running ms c t k p) ≡ true
+  running-ranged = state-ranged ms c t false (producerAt ms t k p) v opens below (producer-ranged ms c v t k p at) (omega arith)
+
+  course-is : (r : Round ms c t k p) → course (running ms c t k p) ≡ cond (eqb (r .k₂) 0) dry removing
+  unfolding course
+  course-is r = rw running-ranged (ap (λ (q : Producer). cond (eqb (q .queued) 0) dry removing) (r .twice-is))
+
+  -- the queue is empty: refusal 10, the state as it came, and no work step counts
+  pub dry-call : (r : Round ms c t k p) → r .k₂ ≡ 0 → course (running ms c t k p) ≡ dry
+  dry-call r none = course-is r ∙ ap (λ (b : Bool). cond b dry removing) (eq-eqb (r .k₂) 0 none)
+
+  pub removing-call : (r : Round ms c t k p) (k′ : ℕ) → r .k₂ ≡ suc k′ → course (running ms c t k p) ≡ removing
+  removing-call r k′ some = course-is r ∙ ap (λ (b : Bool). cond b dry removing) (ne-eqb (r .k₂) 0 (λ z. omega arith))
+
+  -- the entry is removed
+  removal-is : (r : Round ms c t k p) (k′ : ℕ)
+      → r .k₂ ≡ suc k′
+      → stepOf (running ms c t k p) ≡ removalOf (running ms c t k p) (ruler ms (suc t)) (producerAt ms (suc t) k′ (r .p₂))
+  unfolding stepOf
+  removal-is r k′ some =
+      let at₁ = work-position at (r .first) in
+      let fits = work-position at₁ (r .second) .fits in
+      let cap = v .capacity in
+      let two : twice (running ms c t k p) ≡ producerAt ms t (suc k′) (r .p₂) =
+      r .twice-is ∙ ap (λ (j : ℕ). producerAt ms t j (r .p₂)) some in
+      ap (stepBy (running ms c t k p)) (removing-call r k′ some)
+      ∙ ap₂ (removalOf (running ms c t k p))
+      (ap (λ (q : Producer). getD (q .queue) 0 0) two ∙ oldest ms t k′)
+      (ap shorter two ∙ shorter-is ms t k′ (r .p₂) (omega arith))
+
+  -- it is a digit's: the change of the list
+  pub move-call : (r : Round ms c t k p) (k′ : ℕ)
+      → r .k₂ ≡ suc k′
+      → suc t < size ms
+      → stepOf (running ms c t k p)
+      ≡ record { state = running ms c (suc t) k′ (r .p₂); answer = given (moved (change ms (suc t))) }
+  move-call r k′ some more =
+      let (i, a) = walk-advances ms (v .two) t more in
+      let inside = a .within in
+      removal-is r k′ some
+      ∙ rw (a .digit, ne-eqb (suc i) (length ms + 1) (λ z. omega arith)) (move-is ms c t i (producerAt ms t k p) (producerAt ms (suc t) k′ (r .p₂)) a more)
+
+  -- it is the last: the end
+  pub end-call : (r : Round ms c t k p) (k′ : ℕ)
+      → r .k₂ ≡ suc k′
+      → suc t ≡ size ms
+      → stepOf (running ms c t k p)
+      ≡ record { state = walkAt ms c t true (producerAt ms (suc t) k′ (r .p₂)); answer = given ended }
+  unfolding endOf
+  end-call r k′ some last =
+      let e : ruler ms (suc t) ≡ suc (length ms) = ap (ruler ms) last ∙ ruler-at-end ms (one ms (v .two)) in
+      removal-is r k′ some ∙ rw (e, eq-eqb (suc (length ms)) (length ms + 1) (omega arith))

@@ -1,0 +1,142 @@
+-- Work steps counted as events: useful ones, appends, and the step formula at each append.
+use Prim.Native.Nat.{ℕ, suc, _+_}
+use native.Mathlib.Omega.{arith}
+use mathlib.Core.Path.{_≡_, ap, _∙_}
+use mathlib.Core.Bool.{true}
+use mathlib.Core.List.{List, [], _∷_, _++_, append-assoc}
+use Rattle.gray.specs.Radices.{allFrom}
+use Rattle.gray.specs.Costs.{cost}
+use Rattle.gray.specs.Bounds.{entry-costs-ruler, cost-below-double}
+use Rattle.ahead.specs.Work.{Work, carry, append, idle}
+use Rattle.ahead.specs.Runs.{useful, appends}
+use Rattle.ahead.specs.Demand.{Finished}
+use Rattle.ahead.specs.Entries.{cost-zero}
+use Rattle.ahead.specs.Positions.{Worked, Worked.carried, Worked.appended, Worked.idled, stepsAt, one}
+
+-- ---- one event more
+useful-more : (es : List Work) (e : Work) → useful (es ++ (e ∷ [])) ≡ useful es + useful (e ∷ [])
+unfolding useful
+useful-more [] e = omega arith
+useful-more (carry ∷ es) e = let ih = useful-more es e in omega arith
+useful-more (append ∷ es) e = let ih = useful-more es e in omega arith
+useful-more (idle ∷ es) e = useful-more es e
+
+appends-more : (es : List Work) (e : Work) → appends (es ++ (e ∷ [])) ≡ appends es + appends (e ∷ [])
+unfolding appends
+appends-more [] e = omega arith
+appends-more (carry ∷ es) e = appends-more es e
+appends-more (append ∷ es) e = let ih = appends-more es e in omega arith
+appends-more (idle ∷ es) e = appends-more es e
+
+-- each append among the events, with a appends and u useful steps before them, is the useful step that the step formula says
+unfoldable Costed : List ℕ → ℕ → ℕ → List Work → Type 0
+Costed ms a u [] = Unit
+Costed ms a u (carry ∷ es) = Costed ms a (suc u) es
+Costed ms a u (append ∷ es) = (suc u ≡ cost ms (suc a)) × Costed ms (suc a) (suc u) es
+Costed ms a u (idle ∷ es) = Costed ms a u es
+
+costed-more : (ms : List ℕ) (a u : ℕ) (es : List Work) (e : Work)
+    → Costed ms a u es
+    → Costed ms (a + appends es) (u + useful es) (e ∷ [])
+    → Costed ms a u (es ++ (e ∷ []))
+unfolding Costed useful appends
+costed-more ms a u [] e c d =
+    let x : a + 0 ≡ a = omega arith in
+    let y : u + 0 ≡ u = omega arith in
+    rw (x, y) at d
+costed-more ms a u (carry ∷ es) e c d =
+    let y : u + suc (useful es) ≡ suc u + useful es = omega arith in
+    costed-more ms a (suc u) es e c (rw y at d)
+costed-more ms a u (append ∷ es) e c d =
+    let x : a + suc (appends es) ≡ suc a + appends es = omega arith in
+    let y : u + suc (useful es) ≡ suc u + useful es = omega arith in
+    (c .0, costed-more ms (suc a) (suc u) es e (c .1) (rw (x, y) at d))
+costed-more ms a u (idle ∷ es) e c d = costed-more ms a u es e c d
+
+costed-at : (ms : List ℕ) (a u : ℕ) (before later : List Work)
+    → Costed ms a u (before ++ append ∷ later)
+    → suc (u + useful before) ≡ cost ms (suc (a + appends before))
+unfolding Costed useful appends
+costed-at ms a u [] later c =
+    let x : a + 0 ≡ a = omega arith in
+    let y : u + 0 ≡ u = omega arith in
+    rw (x, y) (c .0)
+costed-at ms a u (carry ∷ es) later c =
+    let y : u + suc (useful es) ≡ suc u + useful es = omega arith in
+    rw y (costed-at ms a (suc u) es later c)
+costed-at ms a u (append ∷ es) later c =
+    let x : a + suc (appends es) ≡ suc a + appends es = omega arith in
+    let y : u + suc (useful es) ≡ suc u + useful es = omega arith in
+    rw (x, y) (costed-at ms (suc a) (suc u) es later (c .1))
+costed-at ms a u (idle ∷ es) later c = costed-at ms a u es later c
+
+-- ---- the events of a run
+-- they fit the numbers that the run has come to
+pub record Tallied (ms : List ℕ) (t k p : ℕ) (es : List Work) : Type 0 where
+  pub steps : useful es ≡ stepsAt ms t k p
+  pub entries : appends es ≡ t + k
+  costs : Costed ms 0 0 es
+
+pub tally-start : (ms : List ℕ) → Tallied ms 0 0 0 []
+unfolding Costed useful appends
+tally-start ms = let z = cost-zero ms in record { steps = omega arith; entries = omega arith; costs = tt }
+
+pub tally-work : {ms : List ℕ} {c t k p : ℕ} {e : Work} {k′ p′ : ℕ} {es : List Work}
+    → allFrom 2 ms ≡ true
+    → Worked ms c t k p e k′ p′
+    → Tallied ms t k p es
+    → Tallied ms t k′ p′ (es ++ (e ∷ []))
+unfolding Costed useful appends
+tally-work {ms} {t = t} {k = k} {es = es} two (carried h) r =
+    let u = useful-more es carry in
+    let a = appends-more es carry in
+    let s = r .steps in
+    let n = r .entries in
+    record { steps = omega arith; entries = omega arith; costs = costed-more ms 0 0 es carry (r .costs) tt }
+tally-work {ms} {t = t} {k = k} {p = p} {es = es} two (appended h room) r =
+    let u = useful-more es append in
+    let a = appends-more es append in
+    let s = r .steps in
+    let n = r .entries in
+    let next = entry-costs-ruler ms (one ms two) (t + k) in
+    let e : suc (t + k) ≡ t + suc k = omega arith in
+    let same = ap (cost ms) e in
+    let f : suc (0 + appends es) ≡ suc (t + k) = omega arith in
+    let here : suc (0 + useful es) ≡ cost ms (suc (0 + appends es)) = rw f (omega arith) in
+    record { steps = omega arith; entries = omega arith; costs = costed-more ms 0 0 es append (r .costs) (here, tt) }
+tally-work {ms} {es = es} two (idled h full) r =
+    let u = useful-more es idle in
+    let a = appends-more es idle in
+    let s = r .steps in
+    let n = r .entries in
+    record { steps = omega arith; entries = omega arith; costs = costed-more ms 0 0 es idle (r .costs) tt }
+
+-- the two work steps of a call
+pub tally-twice : {ms : List ℕ} {c t k p : ℕ} {e₁ e₂ : Work} {k₁ p₁ k₂ p₂ : ℕ} {es : List Work}
+    → allFrom 2 ms ≡ true
+    → Worked ms c t k p e₁ k₁ p₁
+    → Worked ms c t k₁ p₁ e₂ k₂ p₂
+    → Tallied ms t k p es
+    → Tallied ms t k₂ p₂ (es ++ (e₁ ∷ e₂ ∷ []))
+tally-twice {ms} {t = t} {e₁ = e₁} {e₂} {k₂ = k₂} {p₂} {es} two w₁ w₂ r =
+    rw (append-assoc es (e₁ ∷ []) (e₂ ∷ [])) at (tally-work two w₂ (tally-work two w₁ r))
+
+-- a removal
+pub tally-remove : {ms : List ℕ} {t k p : ℕ} {es : List Work} → Tallied ms t (suc k) p es → Tallied ms (suc t) k p es
+tally-remove {ms} {t} {k} {p} r =
+    let e : t + suc k ≡ suc t + k = omega arith in
+    record { steps = r .steps ∙ ap (λ (j : ℕ). cost ms j + p) e; entries = r .entries ∙ e; costs = r .costs }
+
+-- the step that appends an entry
+pub tally-finished : {ms : List ℕ} {t k p : ℕ} {es : List Work} (before later : List Work)
+    → allFrom 2 ms ≡ true
+    → Tallied ms t k p es
+    → es ≡ before ++ append ∷ later
+    → Finished ms before
+tally-finished {ms} {es = es} before later two r e =
+    let z : 0 + useful before ≡ useful before = omega arith in
+    let y : 0 + appends before ≡ appends before = omega arith in
+    let f : suc (useful before) ≡ cost ms (suc (appends before)) =
+    rw (z, y) at (costed-at ms 0 0 before later (rw e at (r .costs))) in
+    let d = cost-below-double ms two (suc (appends before)) (omega arith) in
+    record { formula = f; double = rw (← f) at d }

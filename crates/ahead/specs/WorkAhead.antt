@@ -1,0 +1,37 @@
+-- Demand 3: the theorem about the whole run of calls from a fresh walk. What it claims stands in Demand, what runs and work steps
+-- are in Runs, what a call is in Calls: the definitions that the contracts of `open` and `step` cite.
+use Prim.Native.Nat.{ℕ, _-_}
+use native.Mathlib.Omega.{arith}
+use mathlib.Core.Path.{_≡_}
+use mathlib.Core.List.{List}
+use Rattle.gray.specs.Answers.{given}
+use Rattle.gray.specs.Radices.{digits, size}
+use Rattle.gray.specs.Sizes.{size-pos}
+use Rattle.ahead.specs.declared.Walk.{Walk}
+use Rattle.ahead.specs.Calls.{openOf}
+use Rattle.ahead.specs.Demand.{WorksAhead, StaysInRange}
+use Rattle.ahead.specs.Positions.{one}
+use Rattle.ahead.specs.Openings.{opened}
+use Rattle.ahead.specs.Clauses.{run-works-ahead, run-stays-in-range}
+
+-- Every walk that opening gives works ahead as demanded, whatever state it was opened on: (a) the queue never holds more than c
+-- entries; (b) entry j is finished by the useful step that the step formula says, in fewer than 2 j; (c) s counts the useful
+-- steps, and says which entry was finished last; (d) with half of n places, rounded up, the calls walk the list and then answer
+-- end, and none is dry; (e) with fewer, a call up to call N is dry, and so is every later one.
+pub fresh-walks-work-ahead : (w : Walk) (radices : List ℕ) (c : ℕ)
+    → openOf w radices c .answer ≡ given tt
+    → WorksAhead (digits radices) c (openOf w radices c .state)
+fresh-walks-work-ahead w radices c accepted =
+    let o = opened w radices c accepted in
+    let pos = size-pos (digits radices) (one (digits radices) (o .survey .two)) in
+    rw (o .is-fresh) (run-works-ahead (digits radices) c (size (digits radices) - 1) (o .survey) (o .opens) (omega arith))
+
+-- Every state of such a run is in range, so that no call of it gets 7, and the counter never runs out: the idle rule at place n + 1
+-- is not met.
+pub fresh-walks-stay-in-range : (w : Walk) (radices : List ℕ) (c : ℕ)
+    → openOf w radices c .answer ≡ given tt
+    → StaysInRange (digits radices) (openOf w radices c .state)
+fresh-walks-stay-in-range w radices c accepted =
+    let o = opened w radices c accepted in
+    let pos = size-pos (digits radices) (one (digits radices) (o .survey .two)) in
+    rw (o .is-fresh) (run-stays-in-range (digits radices) c (size (digits radices) - 1) (o .survey) (o .opens) (omega arith))
