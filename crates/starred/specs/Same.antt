@@ -1,4 +1,4 @@
--- Tests for equal numbers, changes, lists and answers, and that a test that passes shows the equation.
+-- Tests for equal numbers, changes, events, lists and answers, and that a test that passes shows the equation.
 use Prim.Native.Nat.{ℕ}
 use mathlib.Core.Path.{_≡_, refl, ap, ap₂}
 use mathlib.Core.Bool.{Bool, true, false, _&&_, Bool·beq, and-eq-true-iff}
@@ -7,6 +7,7 @@ use borrow.Author.Tests.{eqb-true}
 use lib.Dec.{eqb}
 use Rattle.gray.specs.Answers.{Answer, given, refused}
 use Rattle.gray.specs.Changes.{Change}
+use Rattle.gray.specs.Engines.{Event, moved, ended}
 use Rattle.gray.specs.Bools.{impossible}
 
 -- a test of equality
@@ -33,6 +34,25 @@ showsChange c d e =
 
 abbrev pub changes : Test Change
 changes = record { same = sameChange; shows = showsChange }
+
+abbrev pub sameEvent : Event → Event → Bool
+sameEvent (moved c) (moved d) = sameChange c d
+sameEvent (moved c) ended = false
+sameEvent ended (moved d) = false
+sameEvent ended ended = true
+
+pub showsEvent : (x y : Event) → sameEvent x y ≡ true → x ≡ y
+showsEvent (moved c) (moved d) e = ap moved (showsChange c d e)
+showsEvent (moved c) ended e = impossible (cc)
+showsEvent ended (moved d) e = impossible (cc)
+showsEvent ended ended e = refl
+
+abbrev pub events : Test Event
+events = record { same = sameEvent; shows = showsEvent }
+
+-- there is only one value of Unit
+abbrev pub units : Test Unit
+units = record { same = λ a b. true; shows = λ a b e. refl }
 
 module _ {A : Type 0} (t : Test A) where
   abbrev pub sameList : List A → List A → Bool

@@ -1,18 +1,25 @@
 -- Document 01's starred cases: the table, one test computed over all of it, and the theorem that carries it to each row. Radices
 -- and words are written as there, digit n first.
-use Prim.Native.Nat.{ℕ, zero, suc, _^_, _<_}
+use Prim.Native.Nat.{ℕ, zero, suc, _-_, _^_, _<_}
 use native.Mathlib.Omega.{arith}
 use mathlib.Core.Path.{_≡_, refl}
 use mathlib.Core.Bool.{Bool, true, false, cond, _&&_, and-eq-true-iff}
 use mathlib.Core.List.{List, [], _∷_, map}
 use lib.ListN.{length, getD, take, replicate}
-use Rattle.gray.specs.Answers.{given, refused}
+use Rattle.gray.specs.Answers.{Answer, given, refused}
 use Rattle.gray.specs.Radices.{digits, bytes, size, allFrom}
 use Rattle.gray.specs.Words.{upward, downward, notches, through, list, isWord, rank}
 use Rattle.gray.specs.Changes.{Change, difference, change, ruler}
 use Rattle.gray.specs.Costs.{wholeParts, cost}
 use Rattle.gray.specs.Calls.{sizeCall, rankCall}
-use Rattle.starred.specs.Same.{Test, numbers, changes, lists, answers}
+use Rattle.gray.specs.Directions.{allBelow}
+use Rattle.gray.specs.Engines.{Event, moved, ended, after}
+use Rattle.ahead.specs.declared.Walk.{Walk}
+use Rattle.ahead.specs.States.{setting, producing, inRange}
+use Rattle.ahead.specs.Work.{Work, carry, append, idle, kind, done}
+use Rattle.ahead.specs.Calls.{fresh, closedWalk, openOf, twice, course, shorter, endOf, moveOf, stepOf}
+use Rattle.ahead.specs.Runs.{state, answer, events as eventsOf}
+use Rattle.starred.specs.Same.{Test, numbers, changes, events, units, lists, answers}
 
 -- a row: what the definitions give, and what document 01 says it is
 pub record Row : Type 1 where
@@ -41,6 +48,35 @@ up k = record { digit = k; down = false }
 abbrev down : ℕ → Change
 down k = record { digit = k; down = true }
 
+abbrev names : Change → Answer Event
+names c = given (moved c)
+
+abbrev end : Answer Event
+end = given ended
+
+-- the buffered engine on radices, digit n first, with the capacity c, opened on a state with no survey
+abbrev walk : List ℕ → ℕ → Walk
+walk radices c = openOf closedWalk radices c .state
+
+-- the entry that call j removes
+abbrev removal : Walk → ℕ → ℕ
+removal w j = getD (twice (state w (j - 1)) .queue) 0 0
+
+-- s after call j, and the setting then
+abbrev stepsAfter : Walk → ℕ → ℕ
+stepsAfter w j = state w j .producer .steps
+
+abbrev settingAfter : Walk → ℕ → List ℕ
+settingAfter w j = bytes (setting (state w j))
+
+-- the useful step, counted on from u, that appends the entry with j others before it
+abbrev finishedAt : ℕ → ℕ → List Work → ℕ
+finishedAt j u [] = 0
+finishedAt j u (carry ∷ es) = finishedAt j (suc u) es
+finishedAt zero u (append ∷ es) = suc u
+finishedAt (suc j) u (append ∷ es) = finishedAt j (suc u) es
+finishedAt j u (idle ∷ es) = finishedAt j u es
+
 unfoldable pub table : List Row
 table =
     -- m2 = 2, m1 = 3
@@ -50,8 +86,22 @@ table =
     ∷ row (lists changes) (map (change (digits (2 ∷ 3 ∷ []))) (1 ∷ 2 ∷ 3 ∷ 4 ∷ 5 ∷ []))
     (up 1 ∷ up 1 ∷ up 2 ∷ down 1 ∷ down 1 ∷ [])
     ∷ row (lists numbers) (map (ruler (digits (2 ∷ 3 ∷ []))) (1 ∷ 2 ∷ 3 ∷ 4 ∷ 5 ∷ 6 ∷ [])) (1 ∷ 1 ∷ 2 ∷ 1 ∷ 1 ∷ 3 ∷ [])
-    -- three of 2: entry 8 is finished at useful step 15
+    -- the same, c = 1: removals, s after them, the settings, and what is answered
+    ∷ row (lists numbers) (map (removal (walk (2 ∷ 3 ∷ []) 1)) (1 ∷ 2 ∷ 3 ∷ 4 ∷ 5 ∷ 6 ∷ [])) (1 ∷ 1 ∷ 2 ∷ 1 ∷ 1 ∷ 3 ∷ [])
+    ∷ row (lists numbers) (map (stepsAfter (walk (2 ∷ 3 ∷ []) 1)) (1 ∷ 2 ∷ 3 ∷ 4 ∷ 5 ∷ 6 ∷ [])) (1 ∷ 3 ∷ 4 ∷ 5 ∷ 7 ∷ 9 ∷ [])
+    ∷ row (lists (lists numbers)) (map (settingAfter (walk (2 ∷ 3 ∷ []) 1)) (0 ∷ 1 ∷ 2 ∷ 3 ∷ 4 ∷ 5 ∷ 6 ∷ []))
+    ((0 ∷ 0 ∷ []) ∷ (0 ∷ 1 ∷ []) ∷ (0 ∷ 2 ∷ []) ∷ (1 ∷ 2 ∷ []) ∷ (1 ∷ 1 ∷ []) ∷ (1 ∷ 0 ∷ []) ∷ (1 ∷ 0 ∷ []) ∷ [])
+    ∷ row (lists (answers events)) (map (answer (walk (2 ∷ 3 ∷ []) 1)) (1 ∷ 2 ∷ 3 ∷ 4 ∷ 5 ∷ 6 ∷ 7 ∷ []))
+    (names (up 1) ∷ names (up 1) ∷ names (up 2) ∷ names (down 1) ∷ names (down 1) ∷ end ∷ end ∷ [])
+    -- three of 2, c = 2: the end at call 8, s = 16, though entry 8 is finished at useful step 15
+    ∷ row (lists (answers events)) (map (answer (walk (replicate 3 2) 2)) (1 ∷ 2 ∷ 3 ∷ 4 ∷ 5 ∷ 6 ∷ 7 ∷ 8 ∷ []))
+    (names (up 1) ∷ names (up 2) ∷ names (down 1) ∷ names (up 3) ∷ names (up 1) ∷ names (down 2) ∷ names (down 1) ∷ end ∷ [])
+    ∷ row numbers (stepsAfter (walk (replicate 3 2) 2) 8) 16
+    ∷ row numbers (finishedAt 7 0 (eventsOf (walk (replicate 3 2) 2) 8)) 15
     ∷ row numbers (cost (digits (replicate 3 2)) 8) 15
+    -- with c = 1: seven moves, then refusal 10
+    ∷ row (lists (answers events)) (map (answer (walk (replicate 3 2) 1)) (1 ∷ 2 ∷ 3 ∷ 4 ∷ 5 ∷ 6 ∷ 7 ∷ 8 ∷ 9 ∷ []))
+    (names (up 1) ∷ names (up 2) ∷ names (down 1) ∷ names (up 3) ∷ names (up 1) ∷ names (down 2) ∷ names (down 1) ∷ refused 10 ∷ refused 10 ∷ [])
     -- four sluices of 3
     ∷ row (answers numbers) (rankCall (replicate 4 3) (0 ∷ 1 ∷ 2 ∷ 2 ∷ [])) (given 9)
     -- six of 2
@@ -60,6 +110,9 @@ table =
     -- six of 3: what comes after 211102
     ∷ row (lists (lists numbers)) (take 3 (behind (2 ∷ 1 ∷ 1 ∷ 1 ∷ 0 ∷ 2 ∷ []) (wordsOf (replicate 6 3))))
     ((2 ∷ 1 ∷ 1 ∷ 1 ∷ 0 ∷ 1 ∷ []) ∷ (2 ∷ 1 ∷ 1 ∷ 1 ∷ 0 ∷ 0 ∷ []) ∷ (2 ∷ 1 ∷ 1 ∷ 2 ∷ 0 ∷ 0 ∷ []) ∷ [])
+    -- the same from the buffered engine, c = 3
+    ∷ row (lists (lists numbers)) (map (settingAfter (walk (replicate 6 3) 3)) (609 ∷ 610 ∷ 611 ∷ 612 ∷ []))
+    ((2 ∷ 1 ∷ 1 ∷ 1 ∷ 0 ∷ 2 ∷ []) ∷ (2 ∷ 1 ∷ 1 ∷ 1 ∷ 0 ∷ 1 ∷ []) ∷ (2 ∷ 1 ∷ 1 ∷ 1 ∷ 0 ∷ 0 ∷ []) ∷ (2 ∷ 1 ∷ 1 ∷ 2 ∷ 0 ∷ 0 ∷ []) ∷ [])
     -- no sluice; 48 of 2, and 49; notch counts 1, 2 and 255
     ∷ row (answers numbers) (sizeCall []) (refused 2)
     ∷ row (answers numbers) (sizeCall (replicate 48 2)) (given (2 ^ 48))
@@ -67,6 +120,10 @@ table =
     ∷ row (answers numbers) (sizeCall (1 ∷ [])) (refused 3)
     ∷ row (answers numbers) (sizeCall (2 ∷ [])) (given 2)
     ∷ row (answers numbers) (sizeCall (255 ∷ [])) (given 255)
+    -- the same opened with c = 32; c = 33, and no place at all
+    ∷ row (answers units) (openOf closedWalk (replicate 48 2) 32 .answer) (given tt)
+    ∷ row (answers units) (openOf closedWalk (replicate 48 2) 33 .answer) (refused 5)
+    ∷ row (answers units) (openOf closedWalk (replicate 48 2) 0 .answer) (refused 5)
     ∷ []
 
 passes : List Row → Bool
@@ -80,7 +137,7 @@ each (r ∷ rs) e zero h = r .test .shows (r .computed) (r .said) (and-eq-true-i
 each (r ∷ rs) e (suc i) h = each rs (and-eq-true-iff (r .test .same (r .computed) (r .said)) (passes rs) .0 e .1) i (omega arith)
 
 tested : passes table ≡ true
-unfolding passes table sizeCall rankCall size allFrom upward downward notches through list isWord rank difference ruler wholeParts
+unfolding passes table sizeCall rankCall size allFrom upward downward notches through list isWord rank difference ruler wholeParts allBelow after producing inRange kind done fresh openOf course shorter endOf moveOf stepOf eventsOf
 tested = refl
 
 -- every row of the table holds
