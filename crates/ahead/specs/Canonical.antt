@@ -22,7 +22,8 @@ use Rattle.ahead.specs.Work.{Work, carry, append, idle, countAt, radixAt
 use Rattle.ahead.specs.Calls.{filled}
 use Rattle.ahead.specs.Filled.{getD-filled, set-filled, filled-append}
 use Rattle.ahead.specs.Counters.{mixedDigits, cleared, length-mixedDigits, length-cleared, cleared-at, carry-test, carry-clears, append-counts, ruler-most, ruler-places, allFrom-places, length-places}
-use Rattle.ahead.specs.Positions.{Position, Worked, Worked.carried, Worked.appended, Worked.idled, Surveyed, stepsAt, one, gained, work-steps}
+use Rattle.ahead.specs.Openings.{Openable}
+use Rattle.ahead.specs.Positions.{Position, Worked, Worked.carried, Worked.appended, Worked.idled, stepsAt, one, gained, work-steps}
 
 -- ---- the entries queued
 -- entries t + 1 .. t + k
@@ -95,7 +96,7 @@ pub record Does (ms : List ℕ) (c t k p : ℕ) (e : Work) (k′ p′ : ℕ) : T
   pub is-kind : kind ms c (producerAt ms t k p) ≡ e
   pub leaves : done e (producerAt ms t k p) ≡ producerAt ms t k′ p′
 
-module _ (ms : List ℕ) (c : ℕ) (v : Surveyed ms c) (t k p : ℕ) (at : Position ms c t k p) (lasts : suc (t + k) < 2 * size ms) where
+module _ (ms : List ℕ) (c : ℕ) (v : Openable ms c) (t k p : ℕ) (at : Position ms c t k p) (lasts : suc (t + k) < 2 * size ms) where
   finished : List ℕ
   finished = mixedDigits (places ms) (t + k)
 

@@ -14,12 +14,13 @@ use Rattle.gray.specs.Radices.{size}
 use Rattle.gray.specs.Engines.{ended}
 use Rattle.ahead.specs.declared.Producer.{Producer}
 use Rattle.ahead.specs.declared.Walk.{Walk}
-use Rattle.ahead.specs.States.{openCheck, isGiven, survey, inRange}
+use Rattle.ahead.specs.States.{survey, inRange}
 use Rattle.ahead.specs.Work.{Work, carry, append, idle, countAt, radixAt, runOut, kind, done, work}
 use Rattle.ahead.specs.Calls.{fresh, once, twice, Course, course, shorter, endOf, moveOf, stepBy, stepOf}
 use Rattle.ahead.specs.Runs.{state, answer, events, Accepting}
 use Rattle.ahead.specs.Demand.{Within, Finished, Counted, NamesChange, WalksTheList, RunsDry, WorksAhead, StaysInRange}
-use Rattle.ahead.specs.Positions.{Position, Surveyed, stepsAt, steps-short}
+use Rattle.ahead.specs.Openings.{Openable}
+use Rattle.ahead.specs.Positions.{Position, stepsAt, steps-short}
 use Rattle.ahead.specs.Canonical.{producerAt, walkAt}
 use Rattle.ahead.specs.Rounds.{round, running, running-ranged}
 use Rattle.ahead.specs.Tallies.{Tallied, tally-finished}
@@ -96,9 +97,9 @@ standing {T = T} (dried t u h g d) =
     let (there, same) = rest (d .still) T (omega arith) in on-the-way t g (there ∙ sym (d .still .there) ∙ g .is-state) same
 standing {T = T} (over h e) = let (there, same) = rest (e .still) T h in at-the-end e there same
 
-module _ (ms : List ℕ) (c last : ℕ) (v : Surveyed ms c) (opens : isGiven (openCheck ms c) ≡ true) (whole : size ms ≡ suc last) where
+module _ (ms : List ℕ) (c last : ℕ) (v : Openable ms c) (whole : size ms ≡ suc last) where
   run : (T : ℕ) → Phase ms c last (fresh ms c) T
-  run T = phase ms c last v opens whole T
+  run T = phase ms c last v whole T
 
   -- (a)
   keeps-capacity : (T : ℕ) → Within c (state (fresh ms c) T)
@@ -190,7 +191,7 @@ module _ (ms : List ℕ) (c last : ℕ) (v : Surveyed ms c) (opens : isGiven (op
   ranged T = by (standing (run T))
     where
       by : Standing ms c last (fresh ms c) T → inRange (state (fresh ms c) T) ≡ true
-      by (on-the-way t g e same) = rw e (running-ranged ms c v opens t (g .k) (g .p) (g .at) (g .below) (g .low))
+      by (on-the-way t g e same) = rw e (running-ranged ms c v t (g .k) (g .p) (g .at) (g .below) (g .low))
       by (at-the-end s e same) = rw e (s .ranged)
 
   lasts : (T : ℕ)

@@ -5,9 +5,11 @@ pub mod States
 pub mod Work
 pub mod Calls
 pub mod Runs
--- what is promised of whole runs, and the theorem
+-- what is promised of whole runs, and the theorems
 pub mod Demand
 pub mod WorkAhead
+pub mod Openings
+pub mod Kept
 -- the run: its numbers and their invariants, the states that follow from them, one call, the events, the phases, the clauses
 pub mod Positions
 pub mod Canonical
@@ -20,6 +22,6 @@ pub mod Clauses
 pub mod Entries
 pub mod Counters
 pub mod Filled
-pub mod Openings
+pub mod InRange
 -- what private functions ask for and answer
 pub mod Stages

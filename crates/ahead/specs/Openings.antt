@@ -1,53 +1,76 @@
--- What is known of a survey and a capacity that were opened.
-use Prim.Native.Nat.{ℕ, _-_}
+-- Which surveys and capacities are opened: those within the limits, and no other.
+use Prim.Native.Nat.{ℕ, _^_, _≤_}
 use native.Mathlib.Omega.{arith}
 use mathlib.Core.Path.{_≡_, refl, sym, ap, _∙_}
+use mathlib.Core.Logic.{_↔_}
 use mathlib.Core.Bool.{true}
 use mathlib.Core.List.{List}
-use borrow.Author.Tests.{eqb-false, ltb-false, not-false}
+use borrow.Author.Tests.{eqb-false, ltb-false, not-false, ne-eqb, le-ltb}
 use lib.Dec.{eqb, ltb}
 use lib.ListN.{length}
 use Rattle.gray.specs.Answers.{Answer, given, refused, refusing}
 use Rattle.gray.specs.Bools.{impossible, neither}
-use Rattle.gray.specs.Radices.{digits, allFrom}
+use Rattle.gray.specs.Radices.{digits, size, allFrom}
 use Rattle.gray.specs.Refusals.{faultless, passed}
+use Rattle.gray.specs.Engines.{Handed}
 use Rattle.ahead.specs.declared.Walk.{Walk}
 use Rattle.ahead.specs.States.{wrongCapacity, openCheck, isGiven}
 use Rattle.ahead.specs.Calls.{fresh, openWith, openOf}
-use Rattle.ahead.specs.Positions.{Surveyed}
 
-pub surveyed : (ms : List ℕ) (c : ℕ) → openCheck ms c ≡ given tt → Surveyed ms c
-surveyed ms c e =
-    let f = faultless ms (refusing 5 (wrongCapacity c) (given tt)) tt e in
-    let count = neither (eqb (length ms) 0) (ltb 48 (length ms)) (f .no-count) in
-    let capacity = neither (eqb c 0) (ltb 32 c) (passed 5 (wrongCapacity c) (given tt) tt (f .value) .0) in
-    let no-digit = eqb-false (length ms) 0 (count .0) in
-    let no-place = eqb-false c 0 (capacity .0) in
-    record {
-      two = not-false (allFrom 2 ms) (f .no-radix);
-      some = omega arith;
-      place = omega arith;
-      most = ltb-false 48 (length ms) (count .1);
-      capacity = ltb-false 32 c (capacity .1);
-    }
+-- document 01, "Limits"
+pub record Openable (ms : List ℕ) (c : ℕ) : Type 0 where
+  pub some : 1 ≤ length ms
+  pub most : length ms ≤ 48
+  pub two : allFrom 2 ms ≡ true
+  pub limit : size ms ≤ 2 ^ 62
+  pub place : 1 ≤ c
+  pub capacity : c ≤ 32
 
--- an accepted opening hands back the fresh state
-pub record Fresh (w : Walk) (radices : List ℕ) (c : ℕ) : Type 0 where
-  pub is-fresh : openOf w radices c .state ≡ fresh (digits radices) c
-  pub opens : isGiven (openCheck (digits radices) c) ≡ true
-  pub survey : Surveyed (digits radices) c
-
-pub opened : (w : Walk) (radices : List ℕ) (c : ℕ) → openOf w radices c .answer ≡ given tt → Fresh w radices c
-unfolding openOf
-opened w radices c e = by (openCheck (digits radices) c) refl
+-- ---- the checks
+pub openable : (ms : List ℕ) (c : ℕ) → isGiven (openCheck ms c) ≡ true → Openable ms c
+openable ms c e = by (openCheck ms c) refl e
   where
-    by : (a : Answer Unit) → openCheck (digits radices) c ≡ a → Fresh w radices c
-    by (given u) f =
+    by : (a : Answer Unit) → openCheck ms c ≡ a → isGiven a ≡ true → Openable ms c
+    by (refused k) f t = impossible (cc)
+    by (given u) f t =
+        let p = faultless ms (refusing 5 (wrongCapacity c) (given tt)) u f in
+        let count = neither (eqb (length ms) 0) (ltb 48 (length ms)) (p .no-count) in
+        let places = neither (eqb c 0) (ltb 32 c) (passed 5 (wrongCapacity c) (given tt) u (p .value) .0) in
+        let no-digit = eqb-false (length ms) 0 (count .0) in
+        let no-place = eqb-false c 0 (places .0) in
         record {
-          is-fresh = ap (λ (a : Answer Unit). openWith w (digits radices) c a .state) f;
-          opens = ap isGiven f;
-          survey = surveyed (digits radices) c f;
+          some = omega arith;
+          most = ltb-false 48 (length ms) (count .1);
+          two = not-false (allFrom 2 ms) (p .no-radix);
+          limit = ltb-false (2 ^ 62) (size ms) (p .no-many);
+          place = omega arith;
+          capacity = ltb-false 32 c (places .1);
         }
-    by (refused k) f =
-        let no : refused k ≡ given tt = sym (ap (λ (a : Answer Unit). openWith w (digits radices) c a .answer) f) ∙ e in
-        impossible (cc)
+
+pub opens : {ms : List ℕ} {c : ℕ} → Openable ms c → openCheck ms c ≡ given tt
+opens {ms} {c} o =
+    let a = o .some in
+    let b = o .place in
+    rw
+    (ne-eqb (length ms) 0 (λ z. omega arith), le-ltb 48 (length ms) (o .most), o .two, le-ltb (2 ^ 62) (size ms) (o .limit), ne-eqb c 0 (λ z. omega arith), le-ltb 32 c (o .capacity))
+
+-- ---- the call
+accepted-given : (w : Walk) (ms : List ℕ) (c : ℕ) (a : Answer Unit) → openWith w ms c a .answer ≡ given tt → isGiven a ≡ true
+accepted-given w ms c (given u) e = refl
+accepted-given w ms c (refused k) e = impossible (cc)
+
+-- an opening is accepted exactly if its survey and its capacity are within the limits
+pub opens-exactly : (w : Walk) (radices : List ℕ) (c : ℕ) → (openOf w radices c .answer ≡ given tt) ↔ Openable (digits radices) c
+unfolding openOf
+opens-exactly w radices c = (
+  λ e. openable (digits radices) c (accepted-given w (digits radices) c (openCheck (digits radices) c) e),
+  λ o. ap (λ (a : Answer Unit). openWith w (digits radices) c a .answer) (opens o),
+)
+
+-- it then hands back the fresh state, whatever state it was made on
+pub opens-fresh : (w : Walk) (radices : List ℕ) (c : ℕ)
+    → openOf w radices c .answer ≡ given tt
+    → openOf w radices c .state ≡ fresh (digits radices) c
+unfolding openOf
+opens-fresh w radices c e =
+    ap (λ (a : Answer Unit). openWith w (digits radices) c a .state) (opens (opens-exactly w radices c .0 e))

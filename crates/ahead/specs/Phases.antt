@@ -16,7 +16,7 @@ use Rattle.gray.specs.Members.{wordAt, length-wordAt, member-is-wordAt}
 use Rattle.gray.specs.Turns.{wordAt-start, downsAt-start}
 use Rattle.gray.specs.Engines.{Event, ended, Handed, refusedWith, after}
 use Rattle.ahead.specs.declared.Walk.{Walk}
-use Rattle.ahead.specs.States.{openCheck, isGiven, places, setting, inRange}
+use Rattle.ahead.specs.States.{places, setting, inRange}
 use Rattle.ahead.specs.Work.{Work}
 use Rattle.ahead.specs.Calls.{filled, fresh, Course, removing, course, stepBy, stepOf}
 use Rattle.ahead.specs.Runs.{state, answer, eventsBy, events}
@@ -24,7 +24,8 @@ use Rattle.ahead.specs.Demand.{NamesChange}
 use Rattle.ahead.specs.Filled.{filled-replicate}
 use Rattle.ahead.specs.Counters.{mixedDigits, mixed-start, length-places}
 use Rattle.ahead.specs.Entries.{cost-zero}
-use Rattle.ahead.specs.Positions.{Position, Surveyed, stepsAt, Ahead, Behind, work-position, work-steps, gain-small, ahead-fresh, ahead-work, ahead-remove, ahead-queued, behind-fresh, behind-work, behind-remove, behind-queued}
+use Rattle.ahead.specs.Openings.{Openable}
+use Rattle.ahead.specs.Positions.{Position, stepsAt, Ahead, Behind, work-position, work-steps, gain-small, ahead-fresh, ahead-work, ahead-remove, ahead-queued, behind-fresh, behind-work, behind-remove, behind-queued}
 use Rattle.ahead.specs.Canonical.{entries, same-producer, same-walk, producerAt, walkAt}
 use Rattle.ahead.specs.Ranged.{producer-ranged, state-ranged}
 use Rattle.ahead.specs.Rounds.{running, Round, round, dry-call, removing-call, move-call, end-call}
@@ -82,7 +83,7 @@ pub record Ending (ms : List ℕ) (c last : ℕ) (w : Walk) : Type 0 where
   pub named : (j : ℕ) → 1 ≤ j → j ≤ last → NamesChange ms w j
 
 -- ---- the start
-fresh-is : (ms : List ℕ) (c : ℕ) → Surveyed ms c → fresh ms c ≡ running ms c 0 0 0
+fresh-is : (ms : List ℕ) (c : ℕ) → Openable ms c → fresh ms c ≡ running ms c 0 0 0
 unfolding fresh entries
 fresh-is ms c v =
     let m = v .most in
@@ -94,7 +95,7 @@ fresh-is ms c v =
     let z = cost-zero ms in
     same-walk word downs (same-producer counter refl refl refl (omega arith)) refl
 
-pub going-start : (ms : List ℕ) (c last : ℕ) → Surveyed ms c → size ms ≡ suc last → Going ms c last (fresh ms c) 0
+pub going-start : (ms : List ℕ) (c last : ℕ) → Openable ms c → size ms ≡ suc last → Going ms c last (fresh ms c) 0
 unfolding after events
 going-start ms c last v whole =
     let z = cost-zero ms in
@@ -135,7 +136,7 @@ record Worked-twice (ms : List ℕ) (c last t k p : ℕ) (es : List Work) : Type
   behind : Behind ms c last t 2 (stepsAt ms t k p)
   tallied : Tallied ms t k p es
 
-worked-twice : {ms : List ℕ} {c last t : ℕ} {w : Walk} → Surveyed ms c → (g : Going ms c last w t) (r : Round ms c t (g .k) (g .p))
+worked-twice : {ms : List ℕ} {c last t : ℕ} {w : Walk} → Openable ms c → (g : Going ms c last w t) (r : Round ms c t (g .k) (g .p))
     → Worked-twice ms c last t (r .k₂) (r .p₂) (events w t ++ (r .e₁ ∷ r .e₂ ∷ []))
 worked-twice {ms} {c} {last} {t} {w} v g r =
     let at₁ = work-position (g .at) (r .first) in
@@ -172,7 +173,7 @@ pub data Next (ms : List ℕ) (c last : ℕ) (w : Walk) (t : ℕ) : Type 0 where
   runs-dry : (v : Walk) → Dry ms c w v t → Next ms c last w t
   comes-to-end : suc t ≡ size ms → Ending ms c last w → Next ms c last w t
 
-module _ (ms : List ℕ) (c last : ℕ) (v : Surveyed ms c) (opens : isGiven (openCheck ms c) ≡ true) (whole : size ms ≡ suc last) (w : Walk) (t : ℕ) (g : Going ms c last w t) where
+module _ (ms : List ℕ) (c last : ℕ) (v : Openable ms c) (whole : size ms ≡ suc last) (w : Walk) (t : ℕ) (g : Going ms c last w t) where
   now : Walk
   now = running ms c t (g .k) (g .p)
 
@@ -189,7 +190,7 @@ module _ (ms : List ℕ) (c last : ℕ) (v : Surveyed ms c) (opens : isGiven (op
   dry-next : (r : Round ms c t (g .k) (g .p)) → r .k₂ ≡ 0 → Dry ms c w now t
   unfolding now stepOf
   dry-next r none =
-      let e = dry-call ms c v opens t (g .k) (g .p) (g .at) (g .below) (g .low) r none in
+      let e = dry-call ms c v t (g .k) (g .p) (g .at) (g .below) (g .low) r none in
       let n = worked-twice v g r in
       let step : stepOf now ≡ refusedWith 10 now = ap (stepBy now) e in
       record {
@@ -214,9 +215,9 @@ module _ (ms : List ℕ) (c last : ℕ) (v : Surveyed ms c) (opens : isGiven (op
   move-next : (r : Round ms c t (g .k) (g .p)) (k′ : ℕ) → r .k₂ ≡ suc k′ → suc t < size ms → Going ms c last w (suc t)
   unfolding now
   move-next r k′ some more =
-      let step = move-call ms c v opens t (g .k) (g .p) (g .at) (g .below) (g .low) r k′ some more in
+      let step = move-call ms c v t (g .k) (g .p) (g .at) (g .below) (g .low) r k′ some more in
       let (there, says) = step-then step in
-      let e = events-then r (removing-call ms c v opens t (g .k) (g .p) (g .at) (g .below) (g .low) r k′ some) in
+      let e = events-then r (removing-call ms c v t (g .k) (g .p) (g .at) (g .below) (g .low) r k′ some) in
       let n = removed (subst (λ (k : ℕ). Worked-twice ms c last t k (r .p₂) (events w t ++ (r .e₁ ∷ r .e₂ ∷ []))) some (worked-twice v g r)) in
       let back : setting (state w (suc t)) ≡ member ms (suc t) =
       ap setting there
@@ -242,9 +243,9 @@ module _ (ms : List ℕ) (c last : ℕ) (v : Surveyed ms c) (opens : isGiven (op
   end-next : (r : Round ms c t (g .k) (g .p)) (k′ : ℕ) → r .k₂ ≡ suc k′ → suc t ≡ size ms → Ending ms c last w
   unfolding now course stepOf
   end-next r k′ some end =
-      let step = end-call ms c v opens t (g .k) (g .p) (g .at) (g .below) (g .low) r k′ some end in
+      let step = end-call ms c v t (g .k) (g .p) (g .at) (g .below) (g .low) r k′ some end in
       let (there, says) = step-then step in
-      let e = events-then r (removing-call ms c v opens t (g .k) (g .p) (g .at) (g .below) (g .low) r k′ some) in
+      let e = events-then r (removing-call ms c v t (g .k) (g .p) (g .at) (g .below) (g .low) r k′ some) in
       let two : Worked-twice ms c last t (suc k′) (r .p₂) (events w t ++ (r .e₁ ∷ r .e₂ ∷ [])) =
       subst (λ (k : ℕ). Worked-twice ms c last t k (r .p₂) (events w t ++ (r .e₁ ∷ r .e₂ ∷ []))) some (worked-twice v g r) in
       let n = removed two in
@@ -256,7 +257,7 @@ module _ (ms : List ℕ) (c last : ℕ) (v : Surveyed ms c) (opens : isGiven (op
       let low = n .low in
       let same : stepsAt ms (suc t) k′ (r .p₂) ≡ stepsAt ms (size ms) k′ (r .p₂) = ap (λ (j : ℕ). stepsAt ms j k′ (r .p₂)) end in
       let ranged : inRange stop ≡ true =
-      state-ranged ms c last true (producerAt ms (size ms) k′ (r .p₂)) v opens (omega arith) (producer-ranged ms c v (size ms) k′ (r .p₂) at) (omega arith) in
+      state-ranged ms c last true (producerAt ms (size ms) k′ (r .p₂)) v (omega arith) (producer-ranged ms c v (size ms) k′ (r .p₂) at) (omega arith) in
       let again : course stop ≡ Course.over = rw ranged in
       let stays : stepOf stop ≡ record { state = stop; answer = given ended } = ap (stepBy stop) again in
       let arrives : state w (size ms) ≡ stop = ap (state w) (sym end) ∙ there ∙ reach in
@@ -300,13 +301,12 @@ pub data Phase (ms : List ℕ) (c last : ℕ) (w : Walk) (T : ℕ) : Type 0 wher
   over : size ms ≤ T → Ending ms c last w → Phase ms c last w T
 
 pub phase : (ms : List ℕ) (c last : ℕ)
-    → Surveyed ms c
-    → isGiven (openCheck ms c) ≡ true
+    → Openable ms c
     → size ms ≡ suc last
     → (T : ℕ)
     → Phase ms c last (fresh ms c) T
-phase ms c last v opens whole zero = going (going-start ms c last v whole)
-phase ms c last v opens whole (suc T) = after-one (phase ms c last v opens whole T)
+phase ms c last v whole zero = going (going-start ms c last v whole)
+phase ms c last v whole (suc T) = after-one (phase ms c last v whole T)
   where
     onward : Going ms c last (fresh ms c) T → Next ms c last (fresh ms c) T → Phase ms c last (fresh ms c) (suc T)
     onward g (goes-on g′) = going g′
@@ -314,6 +314,6 @@ phase ms c last v opens whole (suc T) = after-one (phase ms c last v opens whole
     onward g (comes-to-end e s) = over (omega arith) s
 
     after-one : Phase ms c last (fresh ms c) T → Phase ms c last (fresh ms c) (suc T)
-    after-one (going g) = onward g (next-call ms c last v opens whole (fresh ms c) T g)
+    after-one (going g) = onward g (next-call ms c last v whole (fresh ms c) T g)
     after-one (dried t u h g d) = dried t u (omega arith) g d
     after-one (over h s) = over (omega arith) s

@@ -17,6 +17,7 @@ use Rattle.gray.specs.Bounds.{entry-costs-ruler, cost-below-double, cost-burst}
 use Rattle.gray.specs.Rulers.{ruler-pos, ruler-at-end}
 use Rattle.gray.specs.Sizes.{allFrom-weaker, size-pos}
 use Rattle.ahead.specs.Work.{Work, carry, append, idle}
+use Rattle.ahead.specs.Openings.{Openable}
 use Rattle.ahead.specs.Entries.{cost-mono, cost-least, cost-from-N}
 
 -- entries t + 1 .. t + k are queued, in at most c places, and p of the carries of the next one are made
@@ -33,14 +34,6 @@ pub data Worked (ms : List ℕ) (c t k p : ℕ) : Work → ℕ → ℕ → Type 
   carried : suc p < ruler ms (suc (t + k)) → Worked ms c t k p carry k (suc p)
   appended : suc p ≡ ruler ms (suc (t + k)) → k < c → Worked ms c t k p append (suc k) 0
   idled : suc p ≡ ruler ms (suc (t + k)) → k ≡ c → Worked ms c t k p idle k p
-
--- the surveys that an engine can be opened on, as far as the numbers go
-pub record Surveyed (ms : List ℕ) (c : ℕ) : Type 0 where
-  pub two : allFrom 2 ms ≡ true
-  pub some : 0 < length ms
-  pub place : 0 < c
-  pub most : length ms ≤ 48
-  pub capacity : c ≤ 32
 
 pub one : (ms : List ℕ) → allFrom 2 ms ≡ true → allFrom 1 ms ≡ true
 one ms e = allFrom-weaker 2 1 ms (omega arith) e
@@ -111,7 +104,7 @@ ahead-fresh ms two d h = let b = cost-below-double ms two (0 + suc d) (omega ari
 -- an idle step: c entries are queued, so that an entry further on has c more calls before its removal, and a burst of entries
 -- costs no more than those allow
 ahead-idle : (ms : List ℕ) (c t p x : ℕ)
-    → Surveyed ms c
+    → Openable ms c
     → length ms ≤ 2 * c
     → x ≤ 1
     → suc p ≡ ruler ms (suc (t + c))
@@ -139,7 +132,7 @@ ahead-idle ms c t p x v enough small last d =
     ]
 
 pub ahead-work : {ms : List ℕ} {c t k p : ℕ} {e : Work} {k′ p′ : ℕ} (x : ℕ)
-    → Surveyed ms c
+    → Openable ms c
     → length ms ≤ 2 * c
     → x ≤ 1
     → Worked ms c t k p e k′ p′
@@ -226,7 +219,7 @@ behind-queued {ms} {c} {t} {k} {p} last two at whole here some b =
 
 -- ---- the counter does not run out
 -- with at most 2 N − 1 useful steps made, fewer than 2 N − 1 entries are finished
-pub counter-lasts : {ms : List ℕ} {c t k p : ℕ} → Surveyed ms c
+pub counter-lasts : {ms : List ℕ} {c t k p : ℕ} → Openable ms c
     → Position ms c t k p
     → stepsAt ms t k p < 2 * size ms
     → suc (t + k) < 2 * size ms

@@ -19,13 +19,14 @@ use Rattle.gray.specs.Turns.{downsAt, length-downsAt, Advances, walk-advances}
 use Rattle.gray.specs.Engines.{moved, ended}
 use Rattle.ahead.specs.declared.Producer.{Producer}
 use Rattle.ahead.specs.declared.Walk.{Walk}
-use Rattle.ahead.specs.States.{openCheck, isGiven, survey, places, inRange}
+use Rattle.ahead.specs.States.{survey, places, inRange}
 use Rattle.ahead.specs.Work.{Work, runOut, kind, done, work}
 use Rattle.ahead.specs.Calls.{filled, once, twice, dry, removing, course, shorter, endOf, moveOf, removalOf, stepBy, stepOf}
 use Rattle.ahead.specs.Runs.{eventsBy}
 use Rattle.ahead.specs.Filled.{take-filled, getD-filled, set-filled, filled-drop}
 use Rattle.ahead.specs.Counters.{mixedDigits, cleared}
-use Rattle.ahead.specs.Positions.{Position, Worked, Surveyed, stepsAt, one, work-position, work-steps, gain-small, counter-lasts}
+use Rattle.ahead.specs.Openings.{Openable}
+use Rattle.ahead.specs.Positions.{Position, Worked, stepsAt, one, work-position, work-steps, gain-small, counter-lasts}
 use Rattle.ahead.specs.Canonical.{entries, length-entries, entries-first, same-producer, same-walk, producerAt, walkAt, Does, does, not-run-out}
 use Rattle.ahead.specs.Ranged.{producer-ranged, state-ranged}
 
@@ -83,7 +84,7 @@ joined {ms} {c} {t} {k} {p} {e₁} {e₂} {k₁} {p₁} {k₂} {p₂} d₁ d₂ 
     }
 
 pub round : (ms : List ℕ) (c : ℕ)
-    → Surveyed ms c
+    → Openable ms c
     → (t k p : ℕ)
     → Position ms c t k p
     → t < size ms
@@ -145,9 +146,9 @@ move-is ms c t i q left a below =
 
 -- ---- one call
 -- a call on a running state goes as its queue has it after the two work steps
-module _ (ms : List ℕ) (c : ℕ) (v : Surveyed ms c) (opens : isGiven (openCheck ms c) ≡ true) (t k p : ℕ) (at : Position ms c t k p) (below : t < size ms) (low : stepsAt ms t k p ≤ 2 * t) where
+module _ (ms : List ℕ) (c : ℕ) (v : Openable ms c) (t k p : ℕ) (at : Position ms c t k p) (below : t < size ms) (low : stepsAt ms t k p ≤ 2 * t) where
   pub running-ranged : inRange (running ms c t k p) ≡ true
-  running-ranged = state-ranged ms c t false (producerAt ms t k p) v opens below (producer-ranged ms c v t k p at) (omega arith)
+  running-ranged = state-ranged ms c t false (producerAt ms t k p) v below (producer-ranged ms c v t k p at) (omega arith)
 
   course-is : (r : Round ms c t k p) → course (running ms c t k p) ≡ cond (eqb (r .k₂) 0) dry removing
   unfolding course

@@ -1,11 +1,11 @@
 -- What private functions of the engine ask for and answer.
 use Prim.Native.Nat.{ℕ, _+_, _^_, _≤_, _<_}
 use mathlib.Core.Path.{_≡_}
-use mathlib.Core.Bool.{true}
+use mathlib.Core.Bool.{Bool, true}
 use mathlib.Core.List.{List}
-use lib.ListN.{length, take}
+use lib.ListN.{length, getD, take}
 use Rattle.gray.specs.Radices.{allFrom}
-use Rattle.gray.specs.Directions.{inStance}
+use Rattle.gray.specs.Directions.{standsIn, inStance}
 use Rattle.ahead.specs.declared.Producer.{Producer}
 use Rattle.ahead.specs.declared.Progress.{Progress}
 use Rattle.ahead.specs.declared.Walk.{Walk}
@@ -34,6 +34,8 @@ pub record Workable (radices : List ℕ) (n c : ℕ) (counter queue : List ℕ) 
   pub wide : length queue ≡ 32
   pub capacity : c ≤ 32
   pub ranged : producing (take n radices) c (assembled counter queue at) ≡ true
+  pub from-one : 1 ≤ at .place
+  pub last : at .place ≤ n + 1
   pub small : at .steps + 1 < 2 ^ 64
 
 -- what a move of digit k asks for

@@ -11,7 +11,7 @@ use Rattle.ahead.specs.declared.Walk.{Walk}
 use Rattle.ahead.specs.Calls.{openOf}
 use Rattle.ahead.specs.Demand.{WorksAhead, StaysInRange}
 use Rattle.ahead.specs.Positions.{one}
-use Rattle.ahead.specs.Openings.{opened}
+use Rattle.ahead.specs.Openings.{opens-exactly, opens-fresh}
 use Rattle.ahead.specs.Clauses.{run-works-ahead, run-stays-in-range}
 
 -- Every walk that opening gives works ahead as demanded, whatever state it was opened on: (a) the queue never holds more than c
@@ -22,9 +22,9 @@ pub fresh-walks-work-ahead : (w : Walk) (radices : List ℕ) (c : ℕ)
     → openOf w radices c .answer ≡ given tt
     → WorksAhead (digits radices) c (openOf w radices c .state)
 fresh-walks-work-ahead w radices c accepted =
-    let o = opened w radices c accepted in
-    let pos = size-pos (digits radices) (one (digits radices) (o .survey .two)) in
-    rw (o .is-fresh) (run-works-ahead (digits radices) c (size (digits radices) - 1) (o .survey) (o .opens) (omega arith))
+    let o = opens-exactly w radices c .0 accepted in
+    let pos = size-pos (digits radices) (one (digits radices) (o .two)) in
+    rw (opens-fresh w radices c accepted) (run-works-ahead (digits radices) c (size (digits radices) - 1) o (omega arith))
 
 -- Every state of such a run is in range, so that no call of it gets 7, and the counter never runs out: the idle rule at place n + 1
 -- is not met.
@@ -32,6 +32,6 @@ pub fresh-walks-stay-in-range : (w : Walk) (radices : List ℕ) (c : ℕ)
     → openOf w radices c .answer ≡ given tt
     → StaysInRange (digits radices) (openOf w radices c .state)
 fresh-walks-stay-in-range w radices c accepted =
-    let o = opened w radices c accepted in
-    let pos = size-pos (digits radices) (one (digits radices) (o .survey .two)) in
-    rw (o .is-fresh) (run-stays-in-range (digits radices) c (size (digits radices) - 1) (o .survey) (o .opens) (omega arith))
+    let o = opens-exactly w radices c .0 accepted in
+    let pos = size-pos (digits radices) (one (digits radices) (o .two)) in
+    rw (opens-fresh w radices c accepted) (run-stays-in-range (digits radices) c (size (digits radices) - 1) o (omega arith))

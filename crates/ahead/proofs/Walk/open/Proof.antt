@@ -1,0 +1,85 @@
+-- `ahead::Walk::open` meets its contract: a stage that refuses hands the state back, and what passes every stage opens. Assumes
+-- nothing.
+use mathlib.Core.Path.{_≡_, sym, ap, _∙_}
+use native.Mathlib.Omega.{arith}
+use Rattle.gray.specs.Answers.{given}
+use Rattle.gray.specs.Calls.{countedAs, sizeCall}
+use Rattle.gray.specs.Refusals.{accepted, passed-on}
+use Rattle.ahead.proofs.Ranges.{opening-refused, capacity-refused, opening-given, right-capacity}
+use borrow.Author.Needs.{needs}
+use Rattle.ahead.proofs.Walk.open.Statement.{statement}
+use Rattle.ahead.proofs.Walk.open.Tie as tie
+
+-- what is known once the radices are accepted
+size-is : (c : tie.After-enum-told) →
+    sizeCall (c .before .before .before .before .args .radices .now) ≡ given (c .enum-told .given .0 .0)
+size-is c = sym (c .before .before .size .ensures) ∙ ap countedAs (c .enum-told .given .1)
+
+size-requires : tie.Need-size-requires
+size-requires c κs = search needs
+
+enum-told : tie.Need-enum-told
+enum-told c = search needs
+
+enum-told-2 : tie.Need-enum-told-2
+enum-told-2 c = search needs
+
+number-requires : tie.Need-number-requires
+number-requires c κs = search needs
+
+returns : tie.Need-returns
+returns c =
+    let told = c .before in
+    let a = told .before .before .before .before .args in
+    opening-refused (a .self) (a .radices .now) (a .capacity) _
+    (passed-on _ _ _ _ _ (told .before .before .size .ensures) (told .enum-told2 .given .1) (c .number .ensures))
+
+returns-2 : tie.Need-returns-2
+returns-2 c =
+    let told = c .before in
+    let a = told .before .before .before .before .args in
+    capacity-refused (a .self) (a .radices .now) (a .capacity) _ (size-is told) (c .if1 .taken)
+
+reversed-requires : tie.Need-reversed-requires
+reversed-requires c κs = accepted _ _ (size-is (c .before)) .most
+
+cast-fresh : tie.Need-cast-fresh
+cast-fresh c =
+    let told = c .before .before in
+    let most = accepted (told .before .before .before .before .args .radices .now) _ (size-is told) .most in
+    omega arith
+
+cast-fresh-2 : tie.Need-cast-fresh-2
+cast-fresh-2 c =
+    let most = right-capacity (c .before .before .before .before .before .before .args .capacity) (c .before .if1 .left) in
+    omega arith
+
+fresh-requires : tie.Need-fresh-requires
+fresh-requires c κs = search needs
+
+returns-3 : tie.Need-returns-3
+returns-3 c =
+    let made = c .before in
+    let told = made .before .before in
+    let a = told .before .before .before .before .args in
+    opening-given (a .self) (a .radices .now) (a .capacity) _ _ _
+    (size-is told)
+    (made .before .if1 .left)
+    (made .reversed .ensures)
+    (c .fresh .ensures)
+
+pub open-spec : {M : Type 1} → statement M
+open-spec =
+    tie.close
+    (tie.spec
+    size-requires
+    enum-told
+    enum-told-2
+    number-requires
+    returns
+    returns-2
+    reversed-requires
+    cast-fresh
+    cast-fresh-2
+    fresh-requires
+    returns-3)

@@ -1,0 +1,193 @@
+-- `ahead::Walk::step` meets its contract: both work steps keep the range rule, and each path is one course of a call. Assumes
+-- nothing.
+use native.Mathlib.Omega.{arith}
+use mathlib.Core.Path.{_≡_, sym, ap, _∙_}
+use mathlib.Core.Bool.{true}
+use borrow.Author.Needs.{needs}
+use borrow.Author.Tests.{not-true, not-false}
+use lib.ListN.{length}
+use Rattle.ahead.specs.declared.Producer.{Producer}
+use Rattle.ahead.specs.declared.Walk.{Walk}
+use Rattle.ahead.specs.States.{survey, inRange}
+use Rattle.ahead.specs.Work.{work}
+use Rattle.ahead.specs.Calls.{once, twice}
+use Rattle.ahead.specs.Stages.{assembled}
+use Rattle.ahead.specs.InRange.{Ranged, range-says, Reached, reached-none}
+use Rattle.ahead.proofs.Steps.{
+  refused-faulty,
+  already-over,
+  reached-by,
+  workable,
+  movable,
+  refused-dry,
+  ends,
+  moves-digit,
+}
+use Rattle.ahead.proofs.Walk.step.Statement.{statement}
+use Rattle.ahead.proofs.Walk.step.Tie as tie
+
+-- ---- the range test, and a walk that has ended
+in-range-requires : tie.Need-in-range-requires
+in-range-requires c κs = search needs
+
+returns : tie.Need-returns
+returns c = refused-faulty _ (sym (c .before .in-range .ensures) ∙ not-true _ (c .if1 .taken))
+
+tested : (c : tie.Else1) → inRange (c .before .before .args .self) ≡ true
+tested c = sym (c .before .in-range .ensures) ∙ not-false _ (c .if1 .left)
+
+returns-2 : tie.Need-returns-2
+returns-2 c = already-over _ (tested (c .before)) (c .if2 .taken)
+
+-- ---- the first work step: the state, the place where the walk was found going on, and what is known there
+slice-aggregate-work : tie.Need-slice-aggregate-work
+slice-aggregate-work c = search needs
+
+slice-aggregate-work-2 : tie.Need-slice-aggregate-work-2
+slice-aggregate-work-2 c = search needs
+
+slice-aggregate-work-3 : tie.Need-slice-aggregate-work-3
+slice-aggregate-work-3 c = search needs
+
+abbrev going : tie.After-queue2 → tie.Else2
+going c = c .before .before .before .before .before .before .before
+
+abbrev walk : tie.After-queue2 → Walk
+walk c = going c .before .before .before .args .self
+
+in-parts : (c : tie.After-queue2) → Ranged (walk c)
+in-parts c = range-says (walk c) (tested (going c .before))
+
+room : (c : tie.After-queue2) → length (walk c .radices) ≡ 48
+room c = search needs
+
+reached-0 : (c : tie.After-queue2) → Reached (walk c) 0 (walk c .producer)
+reached-0 c = reached-none (walk c) (in-parts c) (search needs) (search needs)
+
+work-requires : tie.Need-work-requires
+work-requires c κs = workable (walk c) (in-parts c) (room c) 0 _ _ _ (reached-0 c) (omega arith)
+
+-- ---- the second
+abbrev left-1 : tie.After-work → Producer
+left-1 c = assembled (c .work .last .1 .1 .1 .0) (c .work .last .1 .1 .1 .1 .0) (c .work .result)
+
+once-is : (c : tie.After-work) → left-1 c ≡ once (walk (c .before))
+once-is c = c .work .ensures
+
+reached-1 : (c : tie.After-work) → Reached (walk (c .before)) 1 (left-1 c)
+reached-1 c =
+    let begun = c .before in
+    reached-by (walk begun) (in-parts begun) (room begun) 0 (walk begun .producer) (left-1 c) (reached-0 begun) (once-is c)
+
+slice-aggregate-work-4 : tie.Need-slice-aggregate-work-4
+slice-aggregate-work-4 c = search needs
+
+slice-aggregate-work-5 : tie.Need-slice-aggregate-work-5
+slice-aggregate-work-5 c = search needs
+
+slice-aggregate-work-6 : tie.Need-slice-aggregate-work-6
+slice-aggregate-work-6 c = search needs
+
+abbrev first : tie.After-queue4 → tie.After-work
+first c = c .before .before .before .before .before
+
+work-requires-2 : tie.Need-work-requires-2
+work-requires-2 c κs =
+    let start = first c .before in
+    workable (walk start) (in-parts start) (room start) 1 _ _ _ (reached-1 (first c)) (omega arith)
+
+-- ---- what they leave
+abbrev start : tie.After-work2 → tie.After-queue2
+start c = first (c .before) .before
+
+abbrev left-2 : tie.After-work2 → Producer
+left-2 c = assembled (c .work2 .last .1 .1 .1 .0) (c .work2 .last .1 .1 .1 .1 .0) (c .work2 .result)
+
+second-is : (c : tie.After-work2)
+    → left-2 c ≡ work (survey (walk (start c))) (walk (start c) .capacity) (left-1 (first (c .before)))
+second-is c = c .work2 .ensures
+
+twice-is : (c : tie.After-work2) → left-2 c ≡ twice (walk (start c))
+twice-is c = second-is c ∙ ap (work (survey (walk (start c))) (walk (start c) .capacity)) (once-is (first (c .before)))
+
+reached-2 : (c : tie.After-work2) → Reached (walk (start c)) 2 (left-2 c)
+reached-2 c =
+    reached-by (walk (start c)) (in-parts (start c)) (room (start c)) 1 (left-1 (first (c .before))) (left-2 c)
+    (reached-1 (first (c .before)))
+    (second-is c)
+
+abbrev worked : tie.After-struct-known → tie.After-work2
+worked c = c .before .before .before
+
+returns-3 : tie.Need-returns-3
+returns-3 c =
+    let done = worked (c .before) in
+    let on = going (start done) in
+    refused-dry _ (tested (on .before)) (on .if2 .left) _ _ _ (twice-is done) (c .if3 .taken)
+
+-- ---- the removal
+array-read-k : tie.Need-array-read-k
+array-read-k c = search needs
+
+shifted-requires : tie.Need-shifted-requires
+shifted-requires c κs = search needs
+
+sub-if4 : tie.Need-sub-if4
+sub-if4 c = search needs
+
+add-if4 : tie.Need-add-if4
+add-if4 c = let s = in-parts (start (worked (c .before .before .before))) in omega arith
+
+end-requires : tie.Need-end-requires
+end-requires c κs = search needs
+
+returns-4 : tie.Need-returns-4
+returns-4 c =
+    let taken = c .before .before .before in
+    let done = worked (taken .before .before) in
+    let on = going (start done) in
+    c .end .ensures
+    ∙ ends _ (tested (on .before)) (on .if2 .left) _ _ _ (twice-is done) (taken .before .if3 .left) _
+    (taken .shifted .ensures)
+    (c .before .if4 .taken)
+
+advance-requires : tie.Need-advance-requires
+advance-requires c κs =
+    let some = c .before .before .before in
+    let done = worked (some .before) in
+    movable _ (in-parts (start done)) (room (start done)) 2 _ _ _ (reached-2 done) (some .if3 .left) (c .if4 .left)
+
+returns-5 : tie.Need-returns-5
+returns-5 c =
+    let taken = c .before .before .before in
+    let done = worked (taken .before .before) in
+    let on = going (start done) in
+    c .advance .ensures
+    ∙ moves-digit _ (tested (on .before)) (on .if2 .left) _ _ _ (twice-is done) (taken .before .if3 .left) _
+    (taken .shifted .ensures)
+    (c .before .if4 .left)
+
+pub step-spec : {M : Type 1} → statement M
+step-spec =
+    tie.close
+    (tie.spec
+    in-range-requires
+    returns
+    returns-2
+    slice-aggregate-work
+    slice-aggregate-work-2
+    slice-aggregate-work-3
+    work-requires
+    slice-aggregate-work-4
+    slice-aggregate-work-5
+    slice-aggregate-work-6
+    work-requires-2
+    returns-3
+    array-read-k
+    shifted-requires
+    sub-if4
+    add-if4
+    end-requires
+    returns-4
+    advance-requires
+    returns-5)

@@ -1,0 +1,63 @@
+-- `ahead::in_stance` meets its contract: after i turns the first i digits are tested. Assumes nothing.
+use Prim.Native.Nat.{_-_, _≤_}
+use mathlib.Core.Path.{_≡_}
+use native.Mathlib.Omega.{arith}
+use lib.ListN.{getD}
+use Rattle.gray.specs.Directions.{standsIn, inStance}
+use Rattle.ahead.proofs.Ranges.{tested-none, tested-more, tested-all, radix-two}
+use Rattle.ahead.proofs.in_stance.Statement.{statement}
+use Rattle.ahead.proofs.in_stance.Tie as tie
+
+abbrev Inv-loop : tie.InvT-loop
+Inv-loop radices n word downs ok₀ i₀ ok i = (i ≤ n) × (ok ≡ inStance i radices word downs)
+
+abbrev μ-loop : tie.MeasureT-loop
+μ-loop radices n word downs ok₀ i₀ ok i = n - i
+
+loop-holds : tie.Need-loop-holds Inv-loop μ-loop
+loop-holds c = (omega arith, tested-none _)
+
+shared-slice-read-stands : tie.Need-shared-slice-read-stands Inv-loop μ-loop
+shared-slice-read-stands c = omega arith
+
+shared-slice-read-stands-2 : tie.Need-shared-slice-read-stands-2 Inv-loop μ-loop
+shared-slice-read-stands-2 c = omega arith
+
+shared-slice-read-stands-3 : tie.Need-shared-slice-read-stands-3 Inv-loop μ-loop
+shared-slice-read-stands-3 c = omega arith
+
+stands-requires : tie.Need-stands-requires Inv-loop μ-loop
+stands-requires c κs =
+    let at = c .before .before .before .before in
+    let start = at .before .before .before .before in
+    let below = c .before .before .before .loop-test .taken in
+    let two = radix-two (start .args .radices .now) (start .args .n) (start .pre .0) (at .loop .i) below in
+    omega arith
+
+add-i : tie.Need-add-i Inv-loop μ-loop
+add-i c = omega arith
+
+loop-less : tie.Need-loop-less Inv-loop μ-loop
+loop-less c = omega arith
+
+loop-again : tie.Need-loop-again Inv-loop μ-loop
+loop-again c = (omega arith, tested-more _ _ _ _ (c .before .before .before .before .before .loop .inv .1) (c .stands .ensures))
+
+returns : tie.Need-returns Inv-loop μ-loop
+returns c = tested-all _ _ _ _ (c .before .loop .inv .0) (c .loop-test .left) (c .before .loop .inv .1)
+
+pub in-stance-spec : {M : Type 1} → statement M
+in-stance-spec =
+    tie.close
+    (tie.spec
+    Inv-loop
+    μ-loop
+    loop-holds
+    shared-slice-read-stands
+    shared-slice-read-stands-2
+    shared-slice-read-stands-3
+    stands-requires
+    add-i
+    loop-less
+    loop-again
+    returns)

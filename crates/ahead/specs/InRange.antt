@@ -1,0 +1,363 @@
+-- The range rule part by part, and that work steps and removals keep it.
+use Prim.Native.Nat.{ℕ, _+_, _-_, _≤_, _<_}
+use native.Mathlib.Nat.{add-comm}
+use native.Mathlib.Decide.{decLt, decLe, ℕ-discrete}
+use native.Mathlib.Omega.{arith}
+use mathlib.Core.Path.{_≡_, refl, sym, ap, subst, _∙_}
+use mathlib.Core.Bool.{Bool, true, false, _&&_, and-eq-true-iff}
+use mathlib.Core.List.{List, [], _∷_, _++_}
+use borrow.Author.Tests.{lt-ltb, ltb-true, le-leb, leb-true, eq-eqb, eqb-true, eqb-false}
+use lib.Dec.{eqb, ltb, leb}
+use lib.ListN.{length, getD, drop, set, length-append, length-drop, length-set, List·getD-append, List·getD-eq-default}
+use lib.Seq.{length-take-le, getD-drop, getD-set-same, getD-set-other, getD-append-seam}
+use Rattle.gray.specs.Bools.{impossible}
+use Rattle.gray.specs.Digits.{radix-from}
+use Rattle.gray.specs.Directions.{inStance}
+use Rattle.gray.specs.Radices.{allFrom, size}
+use Rattle.gray.specs.Reversals.{allFrom-reverse}
+use Rattle.gray.specs.Sizes.{allFrom-append}
+use Rattle.gray.specs.Stances.{allBelow-each, each-allBelow}
+use Rattle.ahead.specs.declared.Producer.{Producer}
+use Rattle.ahead.specs.declared.Walk.{Walk}
+use Rattle.ahead.specs.States.{survey, openCheck, isGiven, places, isPlace, counterInRange, entriesInRange, producing, stepLimit, inRange}
+use Rattle.ahead.specs.Work.{Work, carry, append, idle, countAt, radixAt, runOut, kind, done, work}
+use Rattle.ahead.specs.Openings.{Openable, openable}
+use Rattle.ahead.specs.Calls.{once, twice, shorter}
+
+-- the lengths that the arrays of a state have
+pub record Arrays (w : Walk) : Type 0 where
+  pub radices : length (w .radices) ≡ 48
+  pub word : length (w .word) ≡ 48
+  pub downs : length (w .downs) ≡ 48
+  pub counter : length (w .producer .counter) ≡ 49
+  pub queue : length (w .producer .queue) ≡ 32
+
+-- ---- the radices
+pub radix-two : (ms : List ℕ) (i : ℕ) → allFrom 2 ms ≡ true → i < length ms → 2 ≤ getD ms i 0
+radix-two ms i two h = radix-from 2 ms i h (allFrom-reverse 2 ms ∙ two)
+
+-- the radix of every place is at least 2, and that of the last is 2
+pub place-two : (ms : List ℕ) (i : ℕ) → allFrom 2 ms ≡ true → i ≤ length ms → 2 ≤ getD (places ms) i 0
+unfolding allFrom
+place-two ms i two h = radix-two (places ms) i (allFrom-append 2 ms (2 ∷ []) ∙ rw two) (simp length-append (omega arith))
+
+last-is-two : (ms : List ℕ) → getD (places ms) (length ms) 0 ≡ 2
+last-is-two ms = getD-append-seam ms 2 [] 0
+
+-- ---- the range rule for the producer, part by part
+pub record IsPlace (ms : List ℕ) (i : ℕ) : Type 0 where
+  pub from-one : 1 ≤ i
+  pub last : i ≤ length ms + 1
+
+pub record Producing (ms : List ℕ) (c : ℕ) (p : Producer) : Type 0 where
+  pub counts : (i : ℕ) → i < length ms + 1 → getD (p .counter) i 0 < getD (places ms) i 0
+  pub at : IsPlace ms (p .place)
+  pub entries : (i : ℕ) → i < p .queued → IsPlace ms (getD (p .queue) i 0)
+  pub held : p .queued ≤ c
+
+place-says : (ms : List ℕ) (i : ℕ) → isPlace ms i ≡ true → IsPlace ms i
+place-says ms i e =
+    let (low, high) = and-eq-true-iff (leb 1 i) (leb i (length ms + 1)) .0 e in
+    record { from-one = leb-true 1 i low; last = leb-true i (length ms + 1) high }
+
+says-place : (ms : List ℕ) (i : ℕ) → IsPlace ms i → isPlace ms i ≡ true
+says-place ms i s = rw (le-leb 1 i (s .from-one), le-leb i (length ms + 1) (s .last))
+
+module _ (ms : List ℕ) (c : ℕ) (p : Producer) where
+  pub producing-says : producing ms c p ≡ true → Producing ms c p
+  unfolding producing
+  producing-says e =
+      let counts = counterInRange ms (p .counter) in
+      let at = isPlace ms (p .place) in
+      let entries = entriesInRange ms (p .queued) (p .queue) in
+      let (three, held) = and-eq-true-iff (counts && at && entries) (leb (p .queued) c) .0 e in
+      let (two, each) = and-eq-true-iff (counts && at) entries .0 three in
+      let (one, here) = and-eq-true-iff counts at .0 two in
+      record {
+        counts = λ i h.
+            ltb-true (getD (p .counter) i 0) (getD (places ms) i 0)
+            (allBelow-each (length ms + 1) (λ i. ltb (getD (p .counter) i 0) (getD (places ms) i 0)) one i h);
+        at = place-says ms (p .place) here;
+        entries = λ i h.
+            place-says ms (getD (p .queue) i 0) (allBelow-each (p .queued) (λ i. isPlace ms (getD (p .queue) i 0)) each i h);
+        held = leb-true (p .queued) c held;
+      }
+
+  pub says-producing : Producing ms c p → producing ms c p ≡ true
+  unfolding producing
+  says-producing s =
+      let one : counterInRange ms (p .counter) ≡ true =
+      each-allBelow (length ms + 1) (λ i. ltb (getD (p .counter) i 0) (getD (places ms) i 0))
+      (λ i h. lt-ltb (getD (p .counter) i 0) (getD (places ms) i 0) (s .counts i h)) in
+      let each : entriesInRange ms (p .queued) (p .queue) ≡ true =
+      each-allBelow (p .queued) (λ i. isPlace ms (getD (p .queue) i 0))
+      (λ i h. says-place ms (getD (p .queue) i 0) (s .entries i h)) in
+      rw (one, says-place ms (p .place) (s .at), each, le-leb (p .queued) c (s .held))
+
+-- ---- work steps
+-- the arrays keep their lengths, and a work step adds at most 1 to s
+pub counter-long : (k : Work) (p : Producer) → length (done k p .counter) ≡ length (p .counter)
+unfolding done
+counter-long carry p = length-set (p .counter) (p .place - 1) 0
+counter-long append p = length-set (p .counter) (p .place - 1) (countAt p + 1)
+counter-long idle p = refl
+
+pub queue-long : (k : Work) (p : Producer) → length (done k p .queue) ≡ length (p .queue)
+unfolding done
+queue-long carry p = refl
+queue-long append p = length-set (p .queue) (p .queued) (p .place)
+queue-long idle p = refl
+
+pub one-step : (k : Work) (p : Producer) → done k p .steps ≤ p .steps + 1
+unfolding done
+one-step carry p = omega arith
+one-step append p = omega arith
+one-step idle p = omega arith
+
+-- the tests of a work step, in their order
+module _ (ms : List ℕ) (c : ℕ) (p : Producer) where
+  pub runs-out : runOut ms p ≡ true → kind ms c p ≡ idle
+  unfolding kind
+  runs-out r = rw r
+
+  module _ (goes-on : runOut ms p ≡ false) where
+    pub carries-on : eqb (countAt p) (radixAt ms p - 1) ≡ true → kind ms c p ≡ carry
+    unfolding kind
+    carries-on e = rw (goes-on, e)
+
+    pub appends-one : eqb (countAt p) (radixAt ms p - 1) ≡ false → ltb (p .queued) c ≡ true → kind ms c p ≡ append
+    unfolding kind
+    appends-one e q = rw (goes-on, e, q)
+
+    pub stays-full : eqb (countAt p) (radixAt ms p - 1) ≡ false → ltb (p .queued) c ≡ false → kind ms c p ≡ idle
+    unfolding kind
+    stays-full e q = rw (goes-on, e, q)
+
+-- what each kind of work step tells of a producer in range: a carry stands at the place of a digit, since b = 1 at the last place
+-- is the idle rule; an append finds room for a greater count and for an entry
+pub data Working (ms : List ℕ) (c : ℕ) (p : Producer) : Type 0 where
+  carries : kind ms c p ≡ carry → p .place ≤ length ms → Working ms c p
+  appends : kind ms c p ≡ append → countAt p + 1 < radixAt ms p → p .queued < c → Working ms c p
+  idles : kind ms c p ≡ idle → Working ms c p
+
+module _ (ms : List ℕ) (c : ℕ) (p : Producer) (two : allFrom 2 ms ≡ true) (s : Producing ms c p) where
+  digit-carries : runOut ms p ≡ false → eqb (countAt p) (radixAt ms p - 1) ≡ true → p .place ≤ length ms
+  digit-carries r e =
+      let top = eqb-true (countAt p) (radixAt ms p - 1) e in
+      elim (decLe (p .place) (length ms)) [
+        | yes h ↦ h
+        | no h ↦
+            let here : p .place ≡ length ms + 1 = omega arith in
+            let last : p .place - 1 ≡ length ms = omega arith in
+            let radix : radixAt ms p ≡ 2 = rw last (last-is-two ms) in
+            let one : countAt p ≡ 1 = omega arith in
+            impossible (cc (r, eq-eqb (p .place) (length ms + 1) here, eq-eqb (countAt p) 1 one))
+      ]
+
+  pub count-grows : eqb (countAt p) (radixAt ms p - 1) ≡ false → countAt p + 1 < radixAt ms p
+  count-grows e =
+      let below = s .counts (p .place - 1) (omega arith) in
+      let not-top = eqb-false (countAt p) (radixAt ms p - 1) e in
+      elim (decLt (countAt p + 1) (radixAt ms p)) [ yes h ↦ h | no h ↦ absurd (not-top (omega arith)) ]
+
+  pub working : Working ms c p
+  working = go (runOut ms p) refl (eqb (countAt p) (radixAt ms p - 1)) refl (ltb (p .queued) c) refl
+    where
+      go : (r : Bool)
+          → runOut ms p ≡ r
+          → (e : Bool)
+          → eqb (countAt p) (radixAt ms p - 1) ≡ e
+          → (q : Bool)
+          → ltb (p .queued) c ≡ q
+          → Working ms c p
+      go true r e se q sq = idles (runs-out ms c p r)
+      go false r true e q sq = carries (carries-on ms c p r e) (digit-carries r e)
+      go false r false e true q = appends (appends-one ms c p r e q) (count-grows e) (ltb-true (p .queued) c q)
+      go false r false e false q = idles (stays-full ms c p r e q)
+
+-- one count becomes another that is below its radix
+counts-set : (ms l : List ℕ) (j v : ℕ)
+    → j < length l
+    → v < getD (places ms) j 0
+    → ((i : ℕ) → i < length ms + 1 → getD l i 0 < getD (places ms) i 0)
+    → (i : ℕ)
+    → i < length ms + 1
+    → getD (set l j v) i 0 < getD (places ms) i 0
+counts-set ms l j v room small counts i h =
+    elim (ℕ-discrete i j) [
+      | yes e ↦ rw (e, getD-set-same l j v 0 room) small
+      | no n ↦ rw (getD-set-other l j i v 0 n) (counts i h)
+    ]
+
+-- one entry more
+entries-set : (ms l : List ℕ) (k v : ℕ)
+    → k < length l
+    → IsPlace ms v
+    → ((i : ℕ) → i < k → IsPlace ms (getD l i 0))
+    → (i : ℕ)
+    → i < k + 1
+    → IsPlace ms (getD (set l k v) i 0)
+entries-set ms l k v room at entries i h =
+    elim (ℕ-discrete i k) [
+      | yes e ↦ subst (IsPlace ms) (sym (ap (λ j. getD (set l k v) j 0) e ∙ getD-set-same l k v 0 room)) at
+      | no n ↦ subst (IsPlace ms) (sym (getD-set-other l k i v 0 n)) (entries i (omega arith))
+    ]
+
+work-in-range : (ms : List ℕ) (c : ℕ) (p : Producer)
+    → allFrom 2 ms ≡ true
+    → length (p .counter) ≡ 49
+    → length ms ≤ 48
+    → length (p .queue) ≡ 32
+    → c ≤ 32
+    → Producing ms c p
+    → Working ms c p
+    → Producing ms c (work ms c p)
+unfolding done
+work-in-range ms c p two long most wide small s (carries e digit) =
+    let radix = place-two ms (p .place - 1) two (omega arith) in
+    subst (λ k. Producing ms c (done k p)) (sym e)
+    (record {
+      counts = counts-set ms (p .counter) (p .place - 1) 0 (omega arith) (omega arith) (s .counts);
+      at = record { from-one = omega arith; last = omega arith };
+      entries = s .entries;
+      held = s .held;
+    })
+work-in-range ms c p two long most wide small s (appends e room free) =
+    subst (λ k. Producing ms c (done k p)) (sym e)
+    (record {
+      counts = counts-set ms (p .counter) (p .place - 1) (countAt p + 1) (omega arith) room (s .counts);
+      at = record { from-one = omega arith; last = omega arith };
+      entries = entries-set ms (p .queue) (p .queued) (p .place) (omega arith) (s .at) (s .entries);
+      held = omega arith;
+    })
+work-in-range ms c p two long most wide small s (idles e) = subst (λ k. Producing ms c (done k p)) (sym e) s
+
+pub work-keeps : (ms : List ℕ) (c : ℕ) (p : Producer)
+    → allFrom 2 ms ≡ true
+    → length (p .counter) ≡ 49
+    → length ms ≤ 48
+    → length (p .queue) ≡ 32
+    → c ≤ 32
+    → producing ms c p ≡ true
+    → producing ms c (work ms c p) ≡ true
+work-keeps ms c p two long most wide small ranged =
+    let s = producing-says ms c p ranged in
+    says-producing ms c (work ms c p) (work-in-range ms c p two long most wide small s (working ms c p two s))
+
+-- ---- removals
+-- entry i of the shorter queue is entry i + 1
+next-entry : (l : List ℕ) (i : ℕ) → i + 1 < length l → getD (drop 1 l ++ (0 ∷ [])) i 0 ≡ getD l (i + 1) 0
+next-entry l i h =
+    List·getD-append (drop 1 l) (0 ∷ []) 0 i (simp length-drop (omega arith))
+    ∙ getD-drop 1 l i 0
+    ∙ ap (λ j. getD l j 0) (add-comm 1 i)
+
+-- past the array's end there is no place
+queue-holds : (ms : List ℕ) (c : ℕ) (p : Producer) → Producing ms c p → p .queued ≤ length (p .queue)
+queue-holds ms c p s =
+    elim (decLe (p .queued) (length (p .queue))) [
+      | yes h ↦ h
+      | no h ↦
+          let none : getD (p .queue) (length (p .queue)) 0 ≡ 0 = List·getD-eq-default (p .queue) 0 (omega arith) in
+          let at = s .entries (length (p .queue)) (omega arith) in
+          absurd (omega arith)
+    ]
+
+pub shorter-keeps : (ms : List ℕ) (c : ℕ) (p : Producer)
+    → producing ms c p ≡ true
+    → length (p .queue) ≡ 32
+    → 0 < p .queued
+    → producing ms c (shorter p) ≡ true
+unfolding shorter
+shorter-keeps ms c p ranged wide some =
+    let s = producing-says ms c p ranged in
+    let fits = queue-holds ms c p s in
+    says-producing ms c (shorter p)
+    (record {
+      counts = s .counts;
+      at = s .at;
+      entries = λ i h. subst (IsPlace ms) (sym (next-entry (p .queue) i (omega arith))) (s .entries (i + 1) (omega arith));
+      held = omega arith;
+    })
+
+-- ---- the range rule for a state, part by part
+pub record Ranged (w : Walk) : Type 0 where
+  pub most : w .n ≤ 48
+  pub opens : isGiven (openCheck (survey w) (w .capacity)) ≡ true
+  pub stance : inStance (w .n) (w .radices) (w .word) (w .downs) ≡ true
+  pub ahead : producing (survey w) (w .capacity) (w .producer) ≡ true
+  pub rank : w .moves < size (survey w)
+  pub steps : w .producer .steps ≤ stepLimit (w .moves) (w .ended)
+
+module _ (w : Walk) where
+  pub range-says : inRange w ≡ true → Ranged w
+  unfolding inRange
+  range-says e =
+      let most = leb (w .n) 48 in
+      let opens = isGiven (openCheck (survey w) (w .capacity)) in
+      let stance = inStance (w .n) (w .radices) (w .word) (w .downs) in
+      let ahead = producing (survey w) (w .capacity) (w .producer) in
+      let rank = ltb (w .moves) (size (survey w)) in
+      let steps = leb (w .producer .steps) (stepLimit (w .moves) (w .ended)) in
+      let (five, s) = and-eq-true-iff (most && opens && stance && ahead && rank) steps .0 e in
+      let (four, r) = and-eq-true-iff (most && opens && stance && ahead) rank .0 five in
+      let (three, a) = and-eq-true-iff (most && opens && stance) ahead .0 four in
+      let (two, t) = and-eq-true-iff (most && opens) stance .0 three in
+      let (one, o) = and-eq-true-iff most opens .0 two in
+      record {
+        most = leb-true (w .n) 48 one;
+        opens = o;
+        stance = t;
+        ahead = a;
+        rank = ltb-true (w .moves) (size (survey w)) r;
+        steps = leb-true (w .producer .steps) (stepLimit (w .moves) (w .ended)) s;
+      }
+
+  pub says-range : Ranged w → inRange w ≡ true
+  unfolding inRange
+  says-range s =
+      let most = le-leb (w .n) 48 (s .most) in
+      let rank = lt-ltb (w .moves) (size (survey w)) (s .rank) in
+      let steps = le-leb (w .producer .steps) (stepLimit (w .moves) (w .ended)) (s .steps) in
+      rw (most, s .opens, s .stance, s .ahead, rank, steps)
+
+module _ (w : Walk) (s : Ranged w) where
+  pub survey-openable : Openable (survey w) (w .capacity)
+  survey-openable = openable (survey w) (w .capacity) (s .opens)
+
+  pub survey-long : length (w .radices) ≡ 48 → length (survey w) ≡ w .n
+  survey-long room = length-take-le (w .n) (w .radices) (omega arith)
+
+-- ---- the work steps of a call
+-- a producer that a call has come to by x work steps
+pub record Reached (w : Walk) (x : ℕ) (p : Producer) : Type 0 where
+  pub ahead : producing (survey w) (w .capacity) p ≡ true
+  pub counter : length (p .counter) ≡ 49
+  pub queue : length (p .queue) ≡ 32
+  pub steps : p .steps ≤ stepLimit (w .moves) (w .ended) + x
+
+module _ (w : Walk) (s : Ranged w) where
+  pub reached-none : length (w .producer .counter) ≡ 49 → length (w .producer .queue) ≡ 32 → Reached w 0 (w .producer)
+  reached-none long wide = record { ahead = s .ahead; counter = long; queue = wide; steps = omega arith }
+
+  pub reached-more : length (w .radices) ≡ 48
+      → (x : ℕ) (p : Producer)
+      → Reached w x p
+      → Reached w (x + 1) (work (survey w) (w .capacity) p)
+  reached-more room x p r =
+      let sound = survey-openable w s in
+      let long = survey-long w s room in
+      let k = kind (survey w) (w .capacity) p in
+      let one = one-step k p in
+      record {
+        ahead =
+            work-keeps (survey w) (w .capacity) p (sound .two) (r .counter) (omega arith) (r .queue) (sound .capacity) (r .ahead);
+        counter = counter-long k p ∙ r .counter;
+        queue = queue-long k p ∙ r .queue;
+        steps = omega arith;
+      }
+
+  pub reached-twice : Arrays w → Reached w 2 (twice w)
+  reached-twice a =
+      let first = reached-more (a .radices) 0 (w .producer) (reached-none (a .counter) (a .queue)) in
+      reached-more (a .radices) 1 (once w) first

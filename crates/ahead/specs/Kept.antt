@@ -1,0 +1,167 @@
+-- The range rule is kept by every accepted call but one that moves from j = N − 1.
+use Prim.Native.Nat.{ℕ, _+_, _-_, _*_, _≤_, _<_}
+use native.Mathlib.Decide.{ℕ-discrete}
+use native.Mathlib.Omega.{arith}
+use mathlib.Core.Path.{_≡_, refl, sym, ap, subst, _∙_}
+use mathlib.Core.Bool.{Bool, true, false}
+use borrow.Author.Tests.{eq-eqb, ne-eqb}
+use lib.ListN.{getD, length-append, length-drop, length-set}
+use lib.Seq.{getD-take}
+use Rattle.gray.specs.Engines.{refusedWith}
+use Rattle.gray.specs.Radices.{size}
+use Rattle.gray.specs.Stances.{stance-move}
+use Rattle.ahead.specs.declared.Walk.{Walk}
+use Rattle.ahead.specs.States.{survey, producing, stepLimit, inRange}
+use Rattle.ahead.specs.Calls.{twice, faulty, over, dry, removing, course, shorter, endOf, moveOf, stepBy, stepOf}
+use Rattle.ahead.specs.InRange.{Arrays, producing-says, radix-two, shorter-keeps, range-says, says-range, survey-openable, survey-long, reached-twice}
+
+-- ---- calls
+-- the tests of a call, in their order
+module _ (w : Walk) where
+  pub goes-faulty : inRange w ≡ false → course w ≡ faulty
+  unfolding course
+  goes-faulty e = rw e
+
+  module _ (ranged : inRange w ≡ true) where
+    pub goes-over : w .ended ≡ true → course w ≡ over
+    unfolding course
+    goes-over e = rw (ranged, e)
+
+    pub goes-dry : w .ended ≡ false → twice w .queued ≡ 0 → course w ≡ dry
+    unfolding course
+    goes-dry e z = rw (ranged, e, eq-eqb (twice w .queued) 0 z)
+
+    pub goes-removing : w .ended ≡ false → (twice w .queued ≡ 0 → ⊥) → course w ≡ removing
+    unfolding course
+    goes-removing e z = rw (ranged, e, ne-eqb (twice w .queued) 0 z)
+
+  -- a removal, of the entry n + 1 and of any other
+  module _ (removes : course w ≡ removing) where
+    pub removes-last : getD (twice w .queue) 0 0 ≡ w .n + 1 → stepOf w ≡ endOf w (shorter (twice w))
+    unfolding stepOf
+    removes-last e = ap (stepBy w) removes ∙ rw (eq-eqb (getD (twice w .queue) 0 0) (w .n + 1) e)
+
+    pub removes-digit : (getD (twice w .queue) 0 0 ≡ w .n + 1 → ⊥)
+        → stepOf w ≡ moveOf w (getD (twice w .queue) 0 0) (shorter (twice w))
+    unfolding stepOf
+    removes-digit e = ap (stepBy w) removes ∙ rw (ne-eqb (getD (twice w .queue) 0 0) (w .n + 1) e)
+
+-- how a call on a state in range goes: it hands the state back, or it removes an entry, which ends the walk or moves a digit
+pub data Going (w : Walk) : Type 0 where
+  stays : stepOf w .state ≡ w → Going w
+  ends : w .ended ≡ false → 0 < twice w .queued → stepOf w ≡ endOf w (shorter (twice w)) → Going w
+  moves : (k : ℕ)
+      → w .ended ≡ false
+      → 0 < twice w .queued
+      → 1 ≤ k
+      → k ≤ w .n
+      → stepOf w ≡ moveOf w k (shorter (twice w))
+      → Going w
+
+pub going : (w : Walk) → Arrays w → inRange w ≡ true → Going w
+unfolding stepOf
+going w a ranged = go (w .ended) refl
+  where
+    go : (b : Bool) → w .ended ≡ b → Going w
+    go true e = stays (ap (λ c. stepBy w c .state) (goes-over w ranged e))
+    go false e =
+        elim (ℕ-discrete (twice w .queued) 0) [
+          | yes z ↦ stays (ap (λ c. stepBy w c .state) (goes-dry w ranged e z))
+          | no z ↦
+              let s = range-says w ranged in
+              let long = survey-long w s (a .radices) in
+              let some : 0 < twice w .queued = omega arith in
+              let removes = goes-removing w ranged e z in
+              let place = producing-says (survey w) (w .capacity) (twice w) (reached-twice w s a .ahead) .entries 0 some in
+              elim (ℕ-discrete (getD (twice w .queue) 0 0) (w .n + 1)) [
+                | yes l ↦ ends e some (removes-last w removes l)
+                | no d ↦ moves (getD (twice w .queue) 0 0) e some (place .from-one) (omega arith) (removes-digit w removes d)
+              ]
+        ]
+
+module _ (w : Walk) (a : Arrays w) (ranged : inRange w ≡ true) where
+  -- what is left after a removal
+  removed-in-range : 0 < twice w .queued → producing (survey w) (w .capacity) (shorter (twice w)) ≡ true
+  removed-in-range some =
+      let r = reached-twice w (range-says w ranged) a in
+      shorter-keeps (survey w) (w .capacity) (twice w) (r .ahead) (r .queue) some
+
+  steps-after : w .ended ≡ false → twice w .steps ≤ 2 * w .moves + 2
+  steps-after going =
+      let r = reached-twice w (range-says w ranged) a in
+      let limit : twice w .steps ≤ stepLimit (w .moves) false + 2 = rw going at (r .steps) in
+      omega arith
+
+  range-after : Going w → stepOf w .state .moves < size (survey w) → inRange (stepOf w .state) ≡ true
+  unfolding endOf moveOf shorter
+  range-after (stays e) rank = rw e ranged
+  range-after (ends going some e) rank =
+      let s = range-says w ranged in
+      let limit = steps-after going in
+      ap (λ h. inRange (h .state)) e
+      ∙ says-range (endOf w (shorter (twice w)) .state)
+      (record {
+        most = s .most;
+        opens = s .opens;
+        stance = s .stance;
+        ahead = removed-in-range some;
+        rank = s .rank;
+        steps = omega arith;
+      })
+  range-after (moves k going some low high e) rank =
+      let s = range-says w ranged in
+      let limit = steps-after going in
+      let long = survey-long w s (a .radices) in
+      let two = radix-two (survey w) (k - 1) (survey-openable w s .two) (omega arith) in
+      let same = getD-take (w .n) (w .radices) (k - 1) 0 (omega arith) in
+      ap (λ h. inRange (h .state)) e
+      ∙ says-range (moveOf w k (shorter (twice w)) .state)
+      (record {
+        most = s .most;
+        opens = s .opens;
+        stance =
+            stance-move (w .n) (w .radices) (w .word) (w .downs) (k - 1) (omega arith) (omega arith) (omega arith) (omega arith)
+            (s .stance);
+        ahead = removed-in-range some;
+        rank = rw e at rank;
+        steps = omega arith;
+      })
+
+  pub range-kept : stepOf w .state .moves < size (survey w) → inRange (stepOf w .state) ≡ true
+  range-kept rank = range-after (going w a ranged) rank
+
+  arrays-after : Going w → Arrays (stepOf w .state)
+  unfolding endOf moveOf shorter
+  arrays-after (stays e) = subst Arrays (sym e) a
+  arrays-after (ends going some e) =
+      let r = reached-twice w (range-says w ranged) a in
+      subst (λ h. Arrays (h .state)) (sym e)
+      (record {
+        radices = a .radices;
+        word = a .word;
+        downs = a .downs;
+        counter = r .counter;
+        queue = simp (length-append, length-drop) (omega arith);
+      })
+  arrays-after (moves k going some low high e) =
+      let r = reached-twice w (range-says w ranged) a in
+      subst (λ h. Arrays (h .state)) (sym e)
+      (record {
+        radices = a .radices;
+        word = simp length-set (a .word);
+        downs = simp length-set (a .downs);
+        counter = r .counter;
+        queue = simp (length-append, length-drop) (omega arith);
+      })
+
+  pub arrays-kept : Arrays (stepOf w .state)
+  arrays-kept = arrays-after (going w a ranged)
+
+-- a state that has made N moves is out of range
+pub past-the-end : (w : Walk) → size (survey w) ≤ w .moves → stepOf w ≡ refusedWith 7 w
+unfolding stepOf
+past-the-end w h = go (inRange w) refl
+  where
+    go : (b : Bool) → inRange w ≡ b → stepOf w ≡ refusedWith 7 w
+    go true e = let s = range-says w e in absurd (omega arith)
+    go false e = ap (stepBy w) (goes-faulty w e)
