@@ -37,6 +37,7 @@ use Rattle.ahead.specs.States.{
   inRange,
 }
 use Rattle.ahead.specs.Calls.{filled, freshWith, fresh, openWith, openOf}
+use Rattle.ahead.specs.InRange.{radix-two as two-or-more}
 use Rattle.ahead.specs.Stages.{assembled, Radices}
 
 -- ---- a test gathered over all numbers below n
@@ -70,9 +71,10 @@ room-above m a down e d =
 -- ---- radices in an array
 pub radix-two : (l : List ℕ) (n : ℕ) → Radices l n → (i : ℕ) → i < n → 2 ≤ getD l i 0
 radix-two l n r i h =
+    let room = r .room in
+    let most = r .most in
     let long = length-take-le n l (omega arith) in
-    let two = radix-from 2 (take n l) i (omega arith) (allFrom-reverse 2 (take n l) ∙ r .two) in
-    rw (getD-take n l i 0 h) at two
+    rw (getD-take n l i 0 h) at (two-or-more (take n l) i (r .two) (omega arith))
 
 -- ---- the counter's radices
 module _ (l : List ℕ) (n : ℕ) (room : n ≤ length l) where
@@ -194,15 +196,6 @@ module _ (w : Walk) (l : List ℕ) (c : ℕ) where
   opening-given n opened radices e f g h =
       let made : opened ≡ fresh (digits l) c = h ∙ ap₂ (λ t k. freshWith t k c) g (sym (length-reverse l)) in
       ap (λ t. record { state = t; answer = given tt }) made ∙ ap (openWith w (digits l) c) (sym (check-passed l c n false e f))
-
--- ---- a state
--- the arrays of a state are as long as their types say
-pub record Lengths (w : Walk) : Type 0 where
-  pub radices-long : length (w .radices) ≡ 48
-  pub word-long : length (w .word) ≡ 48
-  pub downs-long : length (w .downs) ≡ 48
-  pub counter-long : length (w .producer .counter) ≡ 49
-  pub queue-long : length (w .producer .queue) ≡ 32
 
 -- what the stages that are passed say
 pub accepted-radices : (l : List ℕ) (n total : ℕ) → length l ≡ 48 → n ≤ 48 → sizeCall (take n l) ≡ given total → Radices l n

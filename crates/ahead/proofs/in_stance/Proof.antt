@@ -2,8 +2,7 @@
 use Prim.Native.Nat.{_-_, _≤_}
 use mathlib.Core.Path.{_≡_}
 use native.Mathlib.Omega.{arith}
-use lib.ListN.{getD}
-use Rattle.gray.specs.Directions.{standsIn, inStance}
+use Rattle.gray.specs.Directions.{inStance}
 use Rattle.ahead.proofs.Ranges.{tested-none, tested-more, tested-all, radix-two}
 use Rattle.ahead.proofs.in_stance.Statement.{statement}
 use Rattle.ahead.proofs.in_stance.Tie as tie

@@ -1,7 +1,5 @@
 -- `ahead::moved` meets its contract: a digit in range has a notch to move to. Assumes nothing.
-use Prim.Native.Nat.{_+_, _-_}
 use mathlib.Core.Path.{sym, ap}
-use mathlib.Core.Bool.{cond}
 use native.Mathlib.Omega.{arith}
 use Rattle.gray.specs.Directions.{movedFrom}
 use Rattle.ahead.proofs.Ranges.{room-below, room-above}

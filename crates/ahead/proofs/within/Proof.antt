@@ -1,5 +1,5 @@
 -- `ahead::within` meets its contract. Assumes nothing.
-use Prim.Native.Nat.{_+_, _*_}
+use Prim.Native.Nat.{_*_}
 use mathlib.Core.Path.{_≡_, sym, ap, ap₂, _∙_}
 use mathlib.Core.Bool.{Bool, _&&_}
 use native.Mathlib.Nat.{add-zero}
@@ -10,6 +10,7 @@ use borrow.Author.Needs.{needs}
 use Rattle.ahead.proofs.within.Statement.{statement}
 use Rattle.ahead.proofs.within.Tie as tie
 
+-- once the moves are below the total, the limit on the steps is left to test
 limited : (c : tie.Else1) {ended : Bool} → let a = c .before .args in
     a .ended ≡ ended
     → ltb (a .moves) (a .total) && leb (a .steps) (stepLimit (a .moves) (a .ended)) ≡ leb (a .steps) (stepLimit (a .moves) ended)

@@ -1,18 +1,17 @@
 -- `ahead::Walk::in_range` meets its contract: each stage's test is a part of the range rule. Assumes nothing.
-use Prim.Native.Nat.{ℕ, _≤_}
 use mathlib.Core.Path.{_≡_, sym, ap, subst, _∙_}
 use mathlib.Core.Bool.{true, false}
 use native.Mathlib.Omega.{arith}
 use borrow.Author.Needs.{needs}
-use lib.ListN.{length, take}
+use lib.ListN.{take}
 use lib.Seq.{length-take-le}
 use Rattle.gray.specs.Answers.{given}
 use Rattle.gray.specs.Calls.{countedAs, sizeCall}
 use Rattle.gray.specs.Directions.{inStance}
 use Rattle.ahead.specs.States.{survey}
 use Rattle.ahead.specs.Stages.{Radices}
+use Rattle.ahead.specs.InRange.{Arrays}
 use Rattle.ahead.proofs.Ranges.{
-  Lengths,
   accepted-radices,
   accepted-total,
   right-capacity,
@@ -32,7 +31,7 @@ start c = c .before .before .before .before .before .before .before .before
 abbrev passed : tie.After-downs2 → tie.Else2
 passed c = c .before .before .before .before .before .before .before .before .before
 
-lengths : (c : tie.Start) → Lengths (c .args .self)
+lengths : (c : tie.Start) → Arrays (c .args .self)
 lengths c = search needs
 
 -- what `size` says of the state's radices; what is known once they are accepted
@@ -48,7 +47,8 @@ size-is c = size-says (c .before .before .before) ∙ ap countedAs (c .before .c
 
 radices-fit : (c : tie.After-known-told) → Radices (start c .args .self .radices) (start c .args .self .n)
 radices-fit c =
-    accepted-radices _ _ _ (lengths (start c) .radices-long) (c .before .before .before .before .before .before .before .if1 .left) (size-is c)
+    let most = c .before .before .before .before .before .before .before .if1 .left in
+    accepted-radices _ _ _ (lengths (start c) .radices) most (size-is c)
 
 returns : tie.Need-returns
 returns c = digits-over (c .before .args .self) (c .if1 .taken)
@@ -59,7 +59,7 @@ wide-requires c κs = search needs
 array-share-prefix-radices : tie.Need-array-share-prefix-radices
 array-share-prefix-radices c =
     let first = c .before .before in
-    let long = lengths (first .before) .radices-long in
+    let long = lengths (first .before) .radices in
     let least = first .if1 .left in
     let n = c .wide .ensures .0 in
     omega arith
@@ -103,7 +103,7 @@ in-stance-requires : tie.Need-in-stance-requires
 in-stance-requires c κs =
     let told = passed c .before in
     let long = lengths (start told) in
-    (subst (Radices _) (sym (c .before .before .wide2 .ensures .0)) (radices-fit told), long .word-long, long .downs-long)
+    (subst (Radices _) (sym (c .before .before .wide2 .ensures .0)) (radices-fit told), long .word, long .downs)
 
 slice-aggregate-producer-in-range : tie.Need-slice-aggregate-producer-in-range
 slice-aggregate-producer-in-range c = search needs
@@ -112,13 +112,13 @@ slice-aggregate-producer-in-range-2 : tie.Need-slice-aggregate-producer-in-range
 slice-aggregate-producer-in-range-2 c = search needs
 
 slice-aggregate-producer-in-range-3 : tie.Need-slice-aggregate-producer-in-range-3
-slice-aggregate-producer-in-range-3 c = sym (lengths (start (passed (c .before .before .before .before) .before)) .queue-long)
+slice-aggregate-producer-in-range-3 c = sym (lengths (start (passed (c .before .before .before .before) .before)) .queue)
 
 producer-in-range-requires : tie.Need-producer-in-range-requires
 producer-in-range-requires c κs =
     let at = passed (c .before .before .before .before) in
     let long = lengths (start (at .before)) in
-    (radices-fit (at .before), right-capacity _ (at .if2 .left), long .counter-long, long .queue-long)
+    (radices-fit (at .before), right-capacity _ (at .if2 .left), long .counter, long .queue)
 
 within-requires : tie.Need-within-requires
 within-requires c κs = accepted-total _ _ (size-is (passed (c .before .before .before .before .before) .before)) .1
