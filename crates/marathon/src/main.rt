@@ -1,0 +1,174 @@
+// Walks a survey from its first setting to its end by the buffered engine, with half of n places rounded up, and prints the
+// number of moves and the last setting. Input is one line: notch counts up to 255, sluice n first, with a space after each but
+// the last, which a newline follows. Any other text prints `unread`, a refused survey its number.
+
+use ahead::Walk;
+use gray::Counted;
+use gray::Opening;
+use gray::Stepping;
+ghost use Prim.Native.Nat.{_≤_};
+ghost use lib.ListN.{length};
+ghost use Rattle.io.specs.Counts.{Counts};
+
+// How a walk came out: the state, the moves made, and the answer that ended it.
+struct Finish {
+    walk: Walk,
+    moves: u64,
+    answer: Stepping,
+}
+
+fn print(text: &[u8]) {
+    io::write_all(1, text);
+}
+
+fn wide(x: u8) -> u64 {
+    x as u64
+}
+
+// A decimal digit's value; 10 for any other byte.
+fn digit(byte: u8) -> usize {
+    if byte < 48 {
+        return 10;
+    }
+    if 57 < byte {
+        return 10;
+    }
+    (byte - 48) as usize
+}
+
+// The counts of a line, kept as far as there is room: 49 are too many already. Gives how many are kept, 0 where the text is no
+// such line.
+fn read_line(text: &[u8], counts: &mut [u8]) -> usize
+    ensures { λ r. ⌜ Counts r (now (counts .exit)) ⌝ }
+{
+    let mut n = 0;
+    let mut count = 0;
+    let mut open = false;
+    let mut i = 0;
+    while i < text.len() {
+        let byte = text[i];
+        let d = digit(byte);
+        i += 1;
+        if d < 10 {
+            count = count * 10 + d;
+            open = true;
+            if 255 < count {
+                return 0;
+            }
+        } else {
+            if !open | ((byte != 10) & (byte != 32)) {
+                return 0;
+            }
+            if n < counts.len() {
+                counts[n] = count as u8;
+                n += 1;
+            }
+            if byte == 10 {
+                return n;
+            }
+            count = 0;
+            open = false;
+        }
+    }
+    0
+}
+
+// Calls are made until one does not move, N at the most.
+fn run(walk: Walk, total: u64) -> Finish {
+    let mut now = walk;
+    let mut moves: u64 = 0;
+    while moves < total {
+        let stepped = now.step();
+        now = stepped.walk;
+        let answer = stepped.answer;
+        let Stepping::Moved(_, _) = answer else {
+            return Finish {
+                walk: now,
+                moves: moves,
+                answer: answer,
+            };
+        };
+        moves += 1;
+    }
+    Finish {
+        walk: now,
+        moves: moves,
+        answer: Stepping::Refused(0),
+    }
+}
+
+fn print_number(n: u64) {
+    io::print_decimal(1, n);
+}
+
+fn print_refused(k: u8) {
+    print(b"refused ");
+    print_number(wide(k));
+    print(b"\n");
+}
+
+// A setting: its first n digits, the last of them first, joined by points.
+fn print_word(word: [u8; 48], n: usize)
+    requires { ⌜ n ≤ 48 ⌝ }
+{
+    let mut i = n;
+    while 0 < i {
+        i -= 1;
+        print_number(wide(word[i]));
+        if 0 < i {
+            print(b".");
+        }
+    }
+}
+
+fn print_finish(n: usize, finish: Finish)
+    requires { ⌜ n ≤ 48 ⌝ }
+{
+    let answer = finish.answer;
+    if let Stepping::Refused(k) = answer {
+        print_refused(k);
+        return;
+    }
+    print(b"moves ");
+    print_number(finish.moves);
+    print(b"\nlast ");
+    let walk = finish.walk;
+    let word = walk.word;
+    print_word(word, n);
+    print(b"\n");
+}
+
+// The walk of an accepted survey: `total` is N.
+fn walk_accepted(radices: &[u8], total: u64)
+    requires { ⌜ length (now radices) ≤ 48 ⌝ }
+{
+    let n = radices.len();
+    let opened = Walk::closed().open(radices, (n + 1) / 2);
+    let answer = opened.answer;
+    if let Opening::Refused(k) = answer {
+        print_refused(k);
+        return;
+    }
+    print_finish(n, run(opened.walk, total));
+}
+
+fn walk_all(radices: &[u8]) {
+    let counted = gray::size(radices);
+    let Counted::Size(total) = counted else {
+        print_refused(counted.number());
+        return;
+    };
+    walk_accepted(radices, total);
+}
+
+fn main() {
+    let mut text = [0u8; 256];
+    let got = io::read_full(0, &mut text);
+    let mut counts = [0u8; 49];
+    let n = read_line(&text[..got], &mut counts);
+    if n == 0 {
+        print(b"unread\n");
+        return;
+    }
+    walk_all(&counts[..n]);
+}
