@@ -24,7 +24,7 @@ use Rattle.ahead.specs.Positions.{Position, stepsAt, steps-short}
 use Rattle.ahead.specs.Canonical.{producerAt, walkAt}
 use Rattle.ahead.specs.Rounds.{round, running, running-ranged}
 use Rattle.ahead.specs.Tallies.{Tallied, tally-finished}
-use Rattle.ahead.specs.Phases.{Still, still-on, Going, Dry, Ending, Phase, Phase.going, Phase.dried, Phase.over, phase}
+use Rattle.ahead.specs.Phases.{Still, still-on, Going, Dry, Ending, Phase, Phase.going, Phase.dried, Phase.over, fresh-setting, phase}
 
 -- ---- (a) the capacity: a work step appends only where there is room
 done-within : (c : ℕ) (p : Producer) (out full room : Bool)
@@ -179,6 +179,7 @@ module _ (ms : List ℕ) (c last : ℕ) (v : Openable ms c) (whole : size ms ≡
   pub run-works-ahead : WorksAhead ms c (fresh ms c)
   run-works-ahead =
       record {
+        start = fresh-setting ms c v (omega arith);
         capacity = keeps-capacity;
         step-formula = finishes;
         counted = counts;

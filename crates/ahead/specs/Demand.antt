@@ -7,6 +7,7 @@ use mathlib.Core.List.{List, _∷_, _++_}
 use lib.ListN.{length}
 use Rattle.gray.specs.Answers.{given, refused}
 use Rattle.gray.specs.Radices.{size}
+use Rattle.gray.specs.Words.{member}
 use Rattle.gray.specs.Costs.{cost}
 use Rattle.gray.specs.Engines.{ended, Names}
 use Rattle.ahead.specs.declared.Walk.{Walk}
@@ -50,8 +51,9 @@ pub record RunsDry (ms : List ℕ) (w : Walk) (d : ℕ) : Type 0 where
   pub moves : (j : ℕ) → 1 ≤ j → j < d → NamesChange ms w j
   pub dry : (j : ℕ) → d ≤ j → answer w j ≡ refused 10
 
--- demand 3, for a walk with the radices ms and the capacity c, and every number of calls
+-- demand 3, for a walk with the radices ms and the capacity c, and every number of calls. The walk starts at the setting of rank 0
 pub record WorksAhead (ms : List ℕ) (c : ℕ) (w : Walk) : Type 0 where
+  pub start : setting w ≡ member ms 0
   pub capacity : (t : ℕ) → Within c (state w t)
   pub step-formula : (t : ℕ) (before later : List Work)
       → events w t ≡ before ++ append ∷ later

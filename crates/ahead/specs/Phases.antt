@@ -3,7 +3,7 @@ use Prim.Native.Nat.{ℕ, zero, suc, _+_, _-_, _*_, _≤_, _<_}
 use native.Mathlib.Decide.{decLt}
 use native.Mathlib.Omega.{arith}
 use mathlib.Core.Path.{_≡_, refl, sym, ap, ap₂, _∙_, subst}
-use mathlib.Core.Bool.{true, false}
+use mathlib.Core.Bool.{Bool, true, false}
 use mathlib.Core.List.{List, [], _∷_, _++_, append-nil}
 use lib.ListN.{length, replicate}
 use lib.Seq.{take-at}
@@ -15,6 +15,7 @@ use Rattle.gray.specs.Rulers.{ruler-pos}
 use Rattle.gray.specs.Members.{wordAt, length-wordAt, member-is-wordAt}
 use Rattle.gray.specs.Turns.{wordAt-start, downsAt-start}
 use Rattle.gray.specs.Engines.{Event, ended, Handed, refusedWith, after}
+use Rattle.ahead.specs.declared.Producer.{Producer}
 use Rattle.ahead.specs.declared.Walk.{Walk}
 use Rattle.ahead.specs.States.{places, setting, inRange}
 use Rattle.ahead.specs.Work.{Work}
@@ -94,6 +95,14 @@ fresh-is ms c v =
     sym (ap (filled 49 0) (mixed-start (places ms)) ∙ filled-replicate 49 0 (length (places ms)) (omega arith)) in
     let z = cost-zero ms in
     same-walk word downs (same-producer counter refl refl refl (omega arith)) refl
+
+-- the setting that a state of the run holds
+pub setting-is : (ms : List ℕ) (c t : ℕ) (over : Bool) (q : Producer) → t < size ms → setting (walkAt ms c t over q) ≡ member ms t
+setting-is ms c t over q below =
+    take-at (wordAt ms t) (replicate (48 - length (wordAt ms t)) 0) (length ms) (length-wordAt ms t) ∙ sym (member-is-wordAt ms t below)
+
+pub fresh-setting : (ms : List ℕ) (c : ℕ) → Openable ms c → 0 < size ms → setting (fresh ms c) ≡ member ms 0
+fresh-setting ms c v below = ap setting (fresh-is ms c v) ∙ setting-is ms c 0 false (producerAt ms 0 0 0) below
 
 pub going-start : (ms : List ℕ) (c last : ℕ) → Openable ms c → size ms ≡ suc last → Going ms c last (fresh ms c) 0
 unfolding after events
@@ -220,9 +229,7 @@ module _ (ms : List ℕ) (c last : ℕ) (v : Openable ms c) (whole : size ms ≡
       let e = events-then r (removing-call ms c v t (g .k) (g .p) (g .at) (g .below) (g .low) r k′ some) in
       let n = removed (subst (λ (k : ℕ). Worked-twice ms c last t k (r .p₂) (events w t ++ (r .e₁ ∷ r .e₂ ∷ []))) some (worked-twice v g r)) in
       let back : setting (state w (suc t)) ≡ member ms (suc t) =
-      ap setting there
-      ∙ take-at (wordAt ms (suc t)) (replicate (48 - length (wordAt ms (suc t))) 0) (length ms) (length-wordAt ms (suc t))
-      ∙ sym (member-is-wordAt ms (suc t) more) in
+      ap setting there ∙ setting-is ms c (suc t) false (producerAt ms (suc t) k′ (r .p₂)) more in
       record {
         k = k′;
         p = r .p₂;
