@@ -55,15 +55,26 @@ pub record Producing (ms : List ℕ) (c : ℕ) (p : Producer) : Type 0 where
   pub entries : (i : ℕ) → i < p .queued → IsPlace ms (getD (p .queue) i 0)
   pub held : p .queued ≤ c
 
+says-place : (ms : List ℕ) (i : ℕ) → IsPlace ms i → isPlace ms i ≡ true
+says-place ms i s = rw (le-leb 1 i (s .from-one), le-leb i (length ms + 1) (s .last))
+
 place-says : (ms : List ℕ) (i : ℕ) → isPlace ms i ≡ true → IsPlace ms i
 place-says ms i e =
     let (low, high) = and-eq-true-iff (leb 1 i) (leb i (length ms + 1)) .0 e in
     record { from-one = leb-true 1 i low; last = leb-true i (length ms + 1) high }
 
-says-place : (ms : List ℕ) (i : ℕ) → IsPlace ms i → isPlace ms i ≡ true
-says-place ms i s = rw (le-leb 1 i (s .from-one), le-leb i (length ms + 1) (s .last))
-
 module _ (ms : List ℕ) (c : ℕ) (p : Producer) where
+  pub says-producing : Producing ms c p → producing ms c p ≡ true
+  unfolding producing
+  says-producing s =
+      let one : counterInRange ms (p .counter) ≡ true =
+      each-allBelow (length ms + 1) (λ i. ltb (getD (p .counter) i 0) (getD (places ms) i 0))
+      (λ i h. lt-ltb (getD (p .counter) i 0) (getD (places ms) i 0) (s .counts i h)) in
+      let each : entriesInRange ms (p .queued) (p .queue) ≡ true =
+      each-allBelow (p .queued) (λ i. isPlace ms (getD (p .queue) i 0))
+      (λ i h. says-place ms (getD (p .queue) i 0) (s .entries i h)) in
+      rw (one, says-place ms (p .place) (s .at), each, le-leb (p .queued) c (s .held))
+
   pub producing-says : producing ms c p ≡ true → Producing ms c p
   unfolding producing
   producing-says e =
@@ -82,17 +93,6 @@ module _ (ms : List ℕ) (c : ℕ) (p : Producer) where
             place-says ms (getD (p .queue) i 0) (allBelow-each (p .queued) (λ i. isPlace ms (getD (p .queue) i 0)) each i h);
         held = leb-true (p .queued) c held;
       }
-
-  pub says-producing : Producing ms c p → producing ms c p ≡ true
-  unfolding producing
-  says-producing s =
-      let one : counterInRange ms (p .counter) ≡ true =
-      each-allBelow (length ms + 1) (λ i. ltb (getD (p .counter) i 0) (getD (places ms) i 0))
-      (λ i h. lt-ltb (getD (p .counter) i 0) (getD (places ms) i 0) (s .counts i h)) in
-      let each : entriesInRange ms (p .queued) (p .queue) ≡ true =
-      each-allBelow (p .queued) (λ i. isPlace ms (getD (p .queue) i 0))
-      (λ i h. says-place ms (getD (p .queue) i 0) (s .entries i h)) in
-      rw (one, says-place ms (p .place) (s .at), each, le-leb (p .queued) c (s .held))
 
 -- ---- work steps
 -- the arrays keep their lengths, and a work step adds at most 1 to s
@@ -290,6 +290,14 @@ pub record Ranged (w : Walk) : Type 0 where
   pub steps : w .producer .steps ≤ stepLimit (w .moves) (w .ended)
 
 module _ (w : Walk) where
+  pub says-range : Ranged w → inRange w ≡ true
+  unfolding inRange
+  says-range s =
+      let most = le-leb (w .n) 48 (s .most) in
+      let rank = lt-ltb (w .moves) (size (survey w)) (s .rank) in
+      let steps = le-leb (w .producer .steps) (stepLimit (w .moves) (w .ended)) (s .steps) in
+      rw (most, s .opens, s .stance, s .ahead, rank, steps)
+
   pub range-says : inRange w ≡ true → Ranged w
   unfolding inRange
   range-says e =
@@ -312,14 +320,6 @@ module _ (w : Walk) where
         rank = ltb-true (w .moves) (size (survey w)) r;
         steps = leb-true (w .producer .steps) (stepLimit (w .moves) (w .ended)) s;
       }
-
-  pub says-range : Ranged w → inRange w ≡ true
-  unfolding inRange
-  says-range s =
-      let most = le-leb (w .n) 48 (s .most) in
-      let rank = lt-ltb (w .moves) (size (survey w)) (s .rank) in
-      let steps = le-leb (w .producer .steps) (stepLimit (w .moves) (w .ended)) (s .steps) in
-      rw (most, s .opens, s .stance, s .ahead, rank, steps)
 
 module _ (w : Walk) (s : Ranged w) where
   pub survey-openable : Openable (survey w) (w .capacity)
