@@ -7,7 +7,10 @@ use Rattle.ahead.proofs.moved.Statement.{statement}
 use Rattle.ahead.proofs.moved.Tie as tie
 
 sub-result : tie.Need-sub-result
-sub-result c = room-below _ _ _ (c .before .pre) (c .if1 .taken)
+sub-result c =
+    let start = c .before in
+    let below = room-below (start .args .m) (start .args .a) (start .args .down) (start .pre) (c .if1 .taken) in
+    omega arith
 
 add-result : tie.Need-add-result
 add-result c =
