@@ -64,8 +64,8 @@ once w = work (survey w) (w .capacity) (w .producer)
 abbrev pub twice : Walk → Producer
 twice w = work (survey w) (w .capacity) (once w)
 
--- how a call goes: the state is out of range; the walk has ended already; the queue is empty at the removal, after two work steps;
--- or the oldest entry is removed
+-- how a call goes: the state is out of range; the walk has ended already; the queue is empty at the removal, after the two work
+-- steps; or the oldest entry is removed
 pub data Course : Type 0 where
   faulty : Course
   over : Course

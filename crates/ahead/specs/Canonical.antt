@@ -147,7 +147,9 @@ module _ (ms : List ℕ) (c : ℕ) (v : Openable ms c) (t k p : ℕ) (at : Posit
             let two : getD (places ms) (suc p - 1) 0 ≡ 2 =
             ap (λ (i : ℕ). getD (places ms) i 0) (index ∙ q) ∙ getD-append-seam ms 2 [] 0 in
             let no-more : eqb (countAt (producerAt ms t k p)) (2 - 1) ≡ false =
-            ap (λ (m : ℕ). eqb (countAt (producerAt ms t k p)) (m - 1)) (sym two) ∙ test-is ∙ le-ltb (suc p) (ruler ms (suc (t + k))) (omega arith) in
+            ap (λ (m : ℕ). eqb (countAt (producerAt ms t k p)) (m - 1)) (sym two)
+            ∙ test-is
+            ∙ le-ltb (suc p) (ruler ms (suc (t + k))) (omega arith) in
             rw (eq-eqb (suc p) (length ms + 1) (omega arith)) no-more
       ]
 
@@ -177,11 +179,14 @@ module _ (ms : List ℕ) (c : ℕ) (v : Openable ms c) (t k p : ℕ) (at : Posit
       ap (λ (b : ℕ). set (filled 49 0 (cleared p finished)) (suc p - 1) (b + 1)) count-is
       ∙ ap (λ (i : ℕ). set (filled 49 0 (cleared p finished)) i (getD finished p 0 + 1)) index
       ∙ set-filled 49 0 (cleared p finished) p (getD finished p 0 + 1) (omega arith)
-      ∙ ap (filled 49 0) (append-counts (places ms) (allFrom-places 1 ms (omega arith) (one ms (v .two))) (t + k) p (omega arith) (last ∙ sym r))
+      ∙ ap (filled 49 0)
+      (append-counts (places ms) (allFrom-places 1 ms (omega arith) (one ms (v .two))) (t + k) p (omega arith) (last ∙ sym r))
       ∙ ap (λ (j : ℕ). filled 49 0 (mixedDigits (places ms) j)) e
 
   -- the queue with one entry more
-  queued-more : suc p ≡ ruler ms (suc (t + k)) → k < 32 → set (filled 32 0 (entries ms t k)) k (suc p) ≡ filled 32 0 (entries ms t (suc k))
+  queued-more : suc p ≡ ruler ms (suc (t + k))
+      → k < 32
+      → set (filled 32 0 (entries ms t k)) k (suc p) ≡ filled 32 0 (entries ms t (suc k))
   unfolding entries
   queued-more last room =
       let l = length-entries ms t k in

@@ -51,7 +51,8 @@ pub record RunsDry (ms : List ℕ) (w : Walk) (d : ℕ) : Type 0 where
   pub moves : (j : ℕ) → 1 ≤ j → j < d → NamesChange ms w j
   pub dry : (j : ℕ) → d ≤ j → answer w j ≡ refused 10
 
--- demand 3, for a walk with the radices ms and the capacity c, and every number of calls. The walk starts at the setting of rank 0
+-- demand 3, for a walk with the radices ms and the capacity c, and every number of calls. The walk starts at the setting of
+-- rank 0
 pub record WorksAhead (ms : List ℕ) (c : ℕ) (w : Walk) : Type 0 where
   pub start : setting w ≡ member ms 0
   pub capacity : (t : ℕ) → Within c (state w t)
@@ -62,7 +63,8 @@ pub record WorksAhead (ms : List ℕ) (c : ℕ) (w : Walk) : Type 0 where
   pub never-dry : length ms ≤ 2 * c → WalksTheList ms w
   pub dry-within-N : 2 * c < length ms → (d : ℕ) × RunsDry ms w d
 
--- besides: every state of the run is in range, so that no call gets 7, and no work step of it meets the idle rule at the last place
+-- besides: every state of the run is in range, so that no call gets 7, and no work step of it meets the idle rule at the last
+-- place
 pub record StaysInRange (ms : List ℕ) (w : Walk) : Type 0 where
   pub in-range : (t : ℕ) → inRange (state w t) ≡ true
   pub never-7 : (j : ℕ) → answer w j ≡ refused 7 → ⊥

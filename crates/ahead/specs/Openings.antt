@@ -52,7 +52,8 @@ opens {ms} {c} o =
     let a = o .some in
     let b = o .place in
     rw
-    (ne-eqb (length ms) 0 (λ z. omega arith), le-ltb 48 (length ms) (o .most), o .two, le-ltb (2 ^ 62) (size ms) (o .limit), ne-eqb c 0 (λ z. omega arith), le-ltb 32 c (o .capacity))
+    (ne-eqb (length ms) 0 (λ z. omega arith), le-ltb 48 (length ms) (o .most), o .two)
+    (rw (le-ltb (2 ^ 62) (size ms) (o .limit), ne-eqb c 0 (λ z. omega arith), le-ltb 32 c (o .capacity)))
 
 -- ---- the call
 accepted-given : (w : Walk) (ms : List ℕ) (c : ℕ) (a : Answer Unit) → openWith w ms c a .answer ≡ given tt → isGiven a ≡ true

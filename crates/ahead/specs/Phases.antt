@@ -46,8 +46,10 @@ still-on {w} {v} {t} s (suc x) =
     let z : t + suc x ≡ suc (t + x) = omega arith in
     let (there, same) = still-on s x in
     let none : eventsBy (state w (t + x)) (course (state w (t + x))) ≡ [] = ap (λ (u : Walk). eventsBy u (course u)) there ∙ s .quiet in
-    rw z
-    (ap (λ (u : Walk). stepOf u .state) there ∙ s .stays, ap (λ (l : List Work). events w (t + x) ++ l) none ∙ append-nil (events w (t + x)) ∙ same)
+    rw z (
+      ap (λ (u : Walk). stepOf u .state) there ∙ s .stays,
+      ap (λ (l : List Work). events w (t + x) ++ l) none ∙ append-nil (events w (t + x)) ∙ same,
+    )
 
 -- ---- the run
 -- t calls are made, each has named its change, and the walk goes on; last is N − 1
@@ -145,7 +147,9 @@ record Worked-twice (ms : List ℕ) (c last t k p : ℕ) (es : List Work) : Type
   behind : Behind ms c last t 2 (stepsAt ms t k p)
   tallied : Tallied ms t k p es
 
-worked-twice : {ms : List ℕ} {c last t : ℕ} {w : Walk} → Openable ms c → (g : Going ms c last w t) (r : Round ms c t (g .k) (g .p))
+worked-twice : {ms : List ℕ} {c last t : ℕ} {w : Walk}
+    → Openable ms c
+    → (g : Going ms c last w t) (r : Round ms c t (g .k) (g .p))
     → Worked-twice ms c last t (r .k₂) (r .p₂) (events w t ++ (r .e₁ ∷ r .e₂ ∷ []))
 worked-twice {ms} {c} {last} {t} {w} v g r =
     let at₁ = work-position (g .at) (r .first) in
@@ -163,7 +167,9 @@ worked-twice {ms} {c} {last} {t} {w} v g r =
       tallied = tally-twice (v .two) (r .first) (r .second) (g .tallied);
     }
 
-removed : {ms : List ℕ} {c last t k p : ℕ} {es : List Work} → Worked-twice ms c last t (suc k) p es → Removed ms c last (suc t) k p es
+removed : {ms : List ℕ} {c last t k p : ℕ} {es : List Work}
+    → Worked-twice ms c last t (suc k) p es
+    → Removed ms c last (suc t) k p es
 removed {ms} {c} {last} {t} {k} {p} n =
     let e : t + suc k ≡ suc t + k = omega arith in
     let same : stepsAt ms t (suc k) p ≡ stepsAt ms (suc t) k p = ap (λ (j : ℕ). cost ms j + p) e in
@@ -227,7 +233,8 @@ module _ (ms : List ℕ) (c last : ℕ) (v : Openable ms c) (whole : size ms ≡
       let step = move-call ms c v t (g .k) (g .p) (g .at) (g .below) (g .low) r k′ some more in
       let (there, says) = step-then step in
       let e = events-then r (removing-call ms c v t (g .k) (g .p) (g .at) (g .below) (g .low) r k′ some) in
-      let n = removed (subst (λ (k : ℕ). Worked-twice ms c last t k (r .p₂) (events w t ++ (r .e₁ ∷ r .e₂ ∷ []))) some (worked-twice v g r)) in
+      let n =
+      removed (subst (λ (k : ℕ). Worked-twice ms c last t k (r .p₂) (events w t ++ (r .e₁ ∷ r .e₂ ∷ []))) some (worked-twice v g r)) in
       let back : setting (state w (suc t)) ≡ member ms (suc t) =
       ap setting there ∙ setting-is ms c (suc t) false (producerAt ms (suc t) k′ (r .p₂)) more in
       record {
@@ -264,7 +271,9 @@ module _ (ms : List ℕ) (c last : ℕ) (v : Openable ms c) (whole : size ms ≡
       let low = n .low in
       let same : stepsAt ms (suc t) k′ (r .p₂) ≡ stepsAt ms (size ms) k′ (r .p₂) = ap (λ (j : ℕ). stepsAt ms j k′ (r .p₂)) end in
       let ranged : inRange stop ≡ true =
-      state-ranged ms c last true (producerAt ms (size ms) k′ (r .p₂)) v (omega arith) (producer-ranged ms c v (size ms) k′ (r .p₂) at) (omega arith) in
+      state-ranged ms c last true (producerAt ms (size ms) k′ (r .p₂)) v (omega arith)
+      (producer-ranged ms c v (size ms) k′ (r .p₂) at)
+      (omega arith) in
       let again : course stop ≡ Course.over = rw ranged in
       let stays : stepOf stop ≡ record { state = stop; answer = given ended } = ap (stepBy stop) again in
       let arrives : state w (size ms) ≡ stop = ap (state w) (sym end) ∙ there ∙ reach in

@@ -39,7 +39,10 @@ pub one : (ms : List ℕ) → allFrom 2 ms ≡ true → allFrom 1 ms ≡ true
 one ms e = allFrom-weaker 2 1 ms (omega arith) e
 
 -- ---- what a work step keeps
-pub work-position : {ms : List ℕ} {c t k p : ℕ} {e : Work} {k′ p′ : ℕ} → Position ms c t k p → Worked ms c t k p e k′ p′ → Position ms c t k′ p′
+pub work-position : {ms : List ℕ} {c t k p : ℕ} {e : Work} {k′ p′ : ℕ}
+    → Position ms c t k p
+    → Worked ms c t k p e k′ p′
+    → Position ms c t k′ p′
 work-position {ms = ms} {t = t} {k = k} at (carried h) = record { fits = at .fits; carries = h }
 work-position {ms = ms} {t = t} {k = k} at (appended h room) = record { fits = room; carries = ruler-pos ms (suc (t + suc k)) }
 work-position at (idled h full) = at
@@ -72,14 +75,22 @@ work-steps {ms = ms} {t = t} {k = k} two (appended h room) = let n = next-cost m
 work-steps two (idled h full) = omega arith
 
 -- the entries finished, by the steps: those up to t + k, and no more
-pub steps-short : {ms : List ℕ} {c t k p : ℕ} → allFrom 2 ms ≡ true → Position ms c t k p → stepsAt ms t k p < cost ms (suc (t + k))
+pub steps-short : {ms : List ℕ} {c t k p : ℕ}
+    → allFrom 2 ms ≡ true
+    → Position ms c t k p
+    → stepsAt ms t k p < cost ms (suc (t + k))
 steps-short {ms} {c} {t} {k} {p} two at =
     let n = entry-costs-ruler ms (one ms two) (t + k) in
     let h = at .carries in
     omega arith
 
 -- an entry whose cost has been paid is finished
-pub paid : {ms : List ℕ} {c t k p : ℕ} → allFrom 2 ms ≡ true → Position ms c t k p → (j : ℕ) → cost ms j ≤ stepsAt ms t k p → j ≤ t + k
+pub paid : {ms : List ℕ} {c t k p : ℕ}
+    → allFrom 2 ms ≡ true
+    → Position ms c t k p
+    → (j : ℕ)
+    → cost ms j ≤ stepsAt ms t k p
+    → j ≤ t + k
 paid {ms} {c} {t} {k} {p} two at j h =
     elim (decLt (t + k) j) [
       | no q ↦ omega arith
@@ -170,8 +181,8 @@ ahead-queued {ms} {c} {t} {k} {p} two at below a =
     omega arith
 
 -- ---- behind
--- once all entries but the last are finished, at most 2 c + 1 useful steps are made before the call that removes the last; last is
--- N − 1
+-- once all entries but the last are finished, at most 2 c + 1 useful steps are made before the call that removes the last one.
+-- Here last is N − 1
 abbrev pub Behind : List ℕ → ℕ → ℕ → ℕ → ℕ → ℕ → Type 0
 Behind ms c last t x s = cost ms last ≤ s → s + 2 * suc last ≤ cost ms last + 2 * c + 1 + x + 2 * t
 

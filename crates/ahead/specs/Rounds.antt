@@ -113,7 +113,8 @@ shorter-is ms t k p room =
     same-producer
     (ap (λ (j : ℕ). filled 49 0 (cleared p (mixedDigits (places ms) j))) e)
     refl
-    (ap (λ (q : List ℕ). drop 1 (filled 32 0 q) ++ (0 ∷ [])) (entries-first ms t k) ∙ filled-drop 32 0 (ruler ms (suc t)) (entries ms (suc t) k) (omega arith))
+    (ap (λ (q : List ℕ). drop 1 (filled 32 0 q) ++ (0 ∷ [])) (entries-first ms t k)
+    ∙ filled-drop 32 0 (ruler ms (suc t)) (entries ms (suc t) k) (omega arith))
     (omega arith)
     (ap (λ (j : ℕ). cost ms j + p) e)
 
@@ -187,7 +188,8 @@ module _ (ms : List ℕ) (c : ℕ) (v : Openable ms c) (t k p : ℕ) (at : Posit
       let (i, a) = walk-advances ms (v .two) t more in
       let inside = a .within in
       removal-is r k′ some
-      ∙ rw (a .digit, ne-eqb (suc i) (length ms + 1) (λ z. omega arith)) (move-is ms c t i (producerAt ms t k p) (producerAt ms (suc t) k′ (r .p₂)) a more)
+      ∙ rw (a .digit, ne-eqb (suc i) (length ms + 1) (λ z. omega arith))
+      (move-is ms c t i (producerAt ms t k p) (producerAt ms (suc t) k′ (r .p₂)) a more)
 
   -- it is the last: the end
   pub end-call : (r : Round ms c t k p) (k′ : ℕ)

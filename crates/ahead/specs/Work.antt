@@ -24,8 +24,8 @@ radixAt ms p = getD (places ms) (p .place - 1) 0
 abbrev pub runOut : List ℕ → Producer → Bool
 runOut ms p = eqb (p .place) (length ms + 1) && eqb (countAt p) 1
 
--- if b_i = m_i − 1 it carries; otherwise, if the queue holds fewer than c entries, it appends one; otherwise it is idle. Where the
--- counter has run out it is idle and does not carry
+-- if b_i = m_i − 1 it carries; otherwise, if the queue holds fewer than c entries, it appends one; otherwise it is idle. Where
+-- the counter has run out it is idle and does not carry
 unfoldable pub kind : List ℕ → ℕ → Producer → Work
 kind ms c p =
     cond (runOut ms p) idle

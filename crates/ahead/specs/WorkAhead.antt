@@ -26,8 +26,8 @@ fresh-walks-work-ahead w radices c accepted =
     let pos = size-pos (digits radices) (one (digits radices) (o .two)) in
     rw (opens-fresh w radices c accepted) (run-works-ahead (digits radices) c (size (digits radices) - 1) o (omega arith))
 
--- Every state of such a run is in range, so that no call of it gets 7, and the counter never runs out: the idle rule at place n + 1
--- is not met.
+-- Every state of such a run is in range, so that no call of it gets 7, and the counter never runs out: the idle rule at place
+-- n + 1 is not met.
 pub fresh-walks-stay-in-range : (w : Walk) (radices : List ℕ) (c : ℕ)
     → openOf w radices c .answer ≡ given tt
     → StaysInRange (digits radices) (openOf w radices c .state)
