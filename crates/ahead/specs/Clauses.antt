@@ -18,7 +18,7 @@ use Rattle.ahead.specs.States.{survey, inRange}
 use Rattle.ahead.specs.Work.{Work, carry, append, idle, countAt, radixAt, runOut, kind, done, work}
 use Rattle.ahead.specs.Calls.{fresh, once, twice, Course, course, shorter, endOf, moveOf, stepBy, stepOf}
 use Rattle.ahead.specs.Runs.{state, answer, events, Accepting}
-use Rattle.ahead.specs.Demand.{Within, Finished, Counted, NamesChange, WalksTheList, RunsDry, WorksAhead, StaysInRange}
+use Rattle.ahead.specs.Demand.{Within, Finished, StepsCounted, NamesChange, WalksTheList, RunsDry, WorksAhead, StaysInRange}
 use Rattle.ahead.specs.Openings.{Openable}
 use Rattle.ahead.specs.Positions.{Position, stepsAt, steps-short}
 use Rattle.ahead.specs.Canonical.{producerAt, walkAt}
@@ -122,7 +122,7 @@ module _ (ms : List ℕ) (c last : ℕ) (v : Openable ms c) (whole : size ms ≡
       → Position ms c t k p
       → Tallied ms t k p (events w t)
       → state w t .producer ≡ producerAt ms t k p
-      → Counted ms w t
+      → StepsCounted ms w t
   counted-at t k p w at r e =
       let s : state w t .producer .steps ≡ stepsAt ms t k p = ap (λ (q : Producer). q .steps) e in
       let q : state w t .producer .queued ≡ k = ap (λ (q : Producer). q .queued) e in
@@ -134,15 +134,15 @@ module _ (ms : List ℕ) (c last : ℕ) (v : Openable ms c) (whole : size ms ≡
         not-next = rw (q, s) short;
       }
 
-  counts : (t : ℕ) → t ≤ size ms → Accepting (fresh ms c) t → Counted ms (fresh ms c) t
+  counts : (t : ℕ) → t ≤ size ms → Accepting (fresh ms c) t → StepsCounted ms (fresh ms c) t
   counts t most accepting = by (run t)
     where
-      by : Phase ms c last (fresh ms c) t → Counted ms (fresh ms c) t
+      by : Phase ms c last (fresh ms c) t → StepsCounted ms (fresh ms c) t
       by (going g) = counted-at t (g .k) (g .p) (fresh ms c) (g .at) (g .tallied) (ap (λ (u : Walk). u .producer) (g .is-state))
       by (dried d u h g r) = absurd (accepting (suc d) 10 (omega arith) (omega arith) (dry-from r (suc d) (omega arith)))
       by (over h e) =
           let same : size ms ≡ t = omega arith in
-          subst (Counted ms (fresh ms c)) same
+          subst (StepsCounted ms (fresh ms c)) same
           (counted-at (size ms) (e .k) (e .p) (fresh ms c) (e .at) (e .tallied) (ap (λ (u : Walk). u .producer) (e .is-state)))
 
   -- (d)

@@ -29,7 +29,7 @@ pub record Finished (ms : List ℕ) (before : List Work) : Type 0 where
   pub double : suc (useful before) < 2 * suc (appends before)
 
 -- (c) after t calls s is the number of useful steps, and with q entries in the queue, t + q is the last entry finished
-pub record Counted (ms : List ℕ) (w : Walk) (t : ℕ) : Type 0 where
+pub record StepsCounted (ms : List ℕ) (w : Walk) (t : ℕ) : Type 0 where
   pub steps : state w t .producer .steps ≡ useful (events w t)
   pub entries : appends (events w t) ≡ t + state w t .producer .queued
   pub reached : cost ms (t + state w t .producer .queued) ≤ state w t .producer .steps
@@ -59,7 +59,7 @@ pub record WorksAhead (ms : List ℕ) (c : ℕ) (w : Walk) : Type 0 where
   pub step-formula : (t : ℕ) (before later : List Work)
       → events w t ≡ before ++ append ∷ later
       → Finished ms before
-  pub counted : (t : ℕ) → t ≤ size ms → Accepting w t → Counted ms w t
+  pub counted : (t : ℕ) → t ≤ size ms → Accepting w t → StepsCounted ms w t
   pub never-dry : length ms ≤ 2 * c → WalksTheList ms w
   pub dry-within-N : 2 * c < length ms → (d : ℕ) × RunsDry ms w d
 

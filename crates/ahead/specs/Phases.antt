@@ -140,7 +140,7 @@ record Removed (ms : List ℕ) (c last t k p : ℕ) (es : List Work) : Type 0 wh
   tallied : Tallied ms t k p es
 
 -- the numbers before the removal
-record Worked-twice (ms : List ℕ) (c last t k p : ℕ) (es : List Work) : Type 0 where
+record WorkedTwice (ms : List ℕ) (c last t k p : ℕ) (es : List Work) : Type 0 where
   at : Position ms c t k p
   low : stepsAt ms t k p ≤ 2 * t + 2
   ahead : length ms ≤ 2 * c → Ahead ms t 2 (stepsAt ms t k p)
@@ -150,7 +150,7 @@ record Worked-twice (ms : List ℕ) (c last t k p : ℕ) (es : List Work) : Type
 worked-twice : {ms : List ℕ} {c last t : ℕ} {w : Walk}
     → Openable ms c
     → (g : Going ms c last w t) (r : Round ms c t (g .k) (g .p))
-    → Worked-twice ms c last t (r .k₂) (r .p₂) (events w t ++ (r .e₁ ∷ r .e₂ ∷ []))
+    → WorkedTwice ms c last t (r .k₂) (r .p₂) (events w t ++ (r .e₁ ∷ r .e₂ ∷ []))
 worked-twice {ms} {c} {last} {t} {w} v g r =
     let at₁ = work-position (g .at) (r .first) in
     let n₁ = work-steps (v .two) (r .first) in
@@ -168,7 +168,7 @@ worked-twice {ms} {c} {last} {t} {w} v g r =
     }
 
 removed : {ms : List ℕ} {c last t k p : ℕ} {es : List Work}
-    → Worked-twice ms c last t (suc k) p es
+    → WorkedTwice ms c last t (suc k) p es
     → Removed ms c last (suc t) k p es
 removed {ms} {c} {last} {t} {k} {p} n =
     let e : t + suc k ≡ suc t + k = omega arith in
@@ -234,7 +234,7 @@ module _ (ms : List ℕ) (c last : ℕ) (v : Openable ms c) (whole : size ms ≡
       let (there, says) = step-then step in
       let e = events-then r (removing-call ms c v t (g .k) (g .p) (g .at) (g .below) (g .low) r k′ some) in
       let n =
-      removed (subst (λ (k : ℕ). Worked-twice ms c last t k (r .p₂) (events w t ++ (r .e₁ ∷ r .e₂ ∷ []))) some (worked-twice v g r)) in
+      removed (subst (λ (k : ℕ). WorkedTwice ms c last t k (r .p₂) (events w t ++ (r .e₁ ∷ r .e₂ ∷ []))) some (worked-twice v g r)) in
       let back : setting (state w (suc t)) ≡ member ms (suc t) =
       ap setting there ∙ setting-is ms c (suc t) false (producerAt ms (suc t) k′ (r .p₂)) more in
       record {
@@ -260,8 +260,8 @@ module _ (ms : List ℕ) (c last : ℕ) (v : Openable ms c) (whole : size ms ≡
       let step = end-call ms c v t (g .k) (g .p) (g .at) (g .below) (g .low) r k′ some end in
       let (there, says) = step-then step in
       let e = events-then r (removing-call ms c v t (g .k) (g .p) (g .at) (g .below) (g .low) r k′ some) in
-      let two : Worked-twice ms c last t (suc k′) (r .p₂) (events w t ++ (r .e₁ ∷ r .e₂ ∷ [])) =
-      subst (λ (k : ℕ). Worked-twice ms c last t k (r .p₂) (events w t ++ (r .e₁ ∷ r .e₂ ∷ []))) some (worked-twice v g r) in
+      let two : WorkedTwice ms c last t (suc k′) (r .p₂) (events w t ++ (r .e₁ ∷ r .e₂ ∷ [])) =
+      subst (λ (k : ℕ). WorkedTwice ms c last t k (r .p₂) (events w t ++ (r .e₁ ∷ r .e₂ ∷ []))) some (worked-twice v g r) in
       let n = removed two in
       let here : t ≡ last = omega arith in
       let stop : Walk = walkAt ms c last true (producerAt ms (size ms) k′ (r .p₂)) in
