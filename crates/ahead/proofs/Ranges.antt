@@ -15,11 +15,11 @@ use Rattle.gray.specs.Answers.{Answer, given, refused, refusing}
 use Rattle.gray.specs.Bools.{impossible, neither}
 use Rattle.gray.specs.Radices.{digits, size}
 use Rattle.gray.specs.Digits.{radix-from}
-use Rattle.gray.specs.Directions.{allBelow, standsIn, inStance}
+use Rattle.gray.specs.Directions.{allBelow, digitInRange, digitsInRange}
 use Rattle.gray.specs.Calls.{sizeCall}
 use Rattle.gray.specs.Refusals.{accepted, radices-refused, radices-accepted}
 use Rattle.gray.specs.Engines.{refusedWith}
-use Rattle.gray.specs.Stances.{stands-says}
+use Rattle.gray.specs.DigitRanges.{digit-says}
 use Rattle.gray.specs.Reversals.{allFrom-reverse, size-reverse, ofRadices-reverse}
 use Rattle.ahead.specs.declared.Progress.{Progress}
 use Rattle.ahead.specs.declared.Walk.{Walk}
@@ -57,14 +57,14 @@ tested-all test ok i n h k e = let same : i ≡ n = omega arith in e ∙ ap (λ 
 
 -- ---- a digit with its direction
 -- a digit that goes down is not at 0, and one that goes up is not at m − 1
-pub room-below : (m a : ℕ) (down : Bool) → standsIn m a down ≡ true → down ≡ true → 1 ≤ a
+pub room-below : (m a : ℕ) (down : Bool) → digitInRange m a down ≡ true → down ≡ true → 1 ≤ a
 room-below m a down e d =
-    let away : a ≡ 0 → ⊥ = λ z. impossible (cc (stands-says m a down e .up-at-0 z)) in
+    let away : a ≡ 0 → ⊥ = λ z. impossible (cc (digit-says m a down e .up-at-0 z)) in
     omega arith
 
-pub room-above : (m a : ℕ) (down : Bool) → standsIn m a down ≡ true → down ≡ false → a + 1 < m
+pub room-above : (m a : ℕ) (down : Bool) → digitInRange m a down ≡ true → down ≡ false → a + 1 < m
 room-above m a down e d =
-    let s = stands-says m a down e in
+    let s = digit-says m a down e in
     let away : a ≡ m - 1 → ⊥ = λ t. impossible (cc (s .down-at-top t)) in
     omega arith
 
@@ -219,21 +219,21 @@ module _ (w : Walk) where
   unfolding inRange
   not-open e = sym (rw (e, and-false (leb (w .n) 48)))
 
-  pub state-tested : (total : ℕ) (stance ahead bounds : Bool)
+  pub state-tested : (total : ℕ) (notches ahead bounds : Bool)
       → w .n ≤ 48
       → isGiven (openCheck (survey w) (w .capacity)) ≡ true
-      → stance ≡ inStance (w .n) (w .radices) (w .word) (w .downs)
+      → notches ≡ digitsInRange (w .n) (w .radices) (w .word) (w .downs)
       → ahead ≡ producing (survey w) (w .capacity) (w .producer)
       → total ≡ size (survey w)
       → bounds ≡ ltb (w .moves) total && leb (w .producer .steps) (stepLimit (w .moves) (w .ended))
-      → stance && (ahead && bounds) ≡ inRange w
+      → notches && (ahead && bounds) ≡ inRange w
   unfolding inRange
-  state-tested total stance ahead bounds h e f g t b =
+  state-tested total notches ahead bounds h e f g t b =
       let limit = leb (w .producer .steps) (stepLimit (w .moves) (w .ended)) in
       let short = ltb (w .moves) (size (survey w)) in
-      let first = inStance (w .n) (w .radices) (w .word) (w .downs) && producing (survey w) (w .capacity) (w .producer) in
-      let tested : stance && (ahead && bounds) ≡ first && short && limit =
-      sym (and-assoc stance ahead bounds)
+      let first = digitsInRange (w .n) (w .radices) (w .word) (w .downs) && producing (survey w) (w .capacity) (w .producer) in
+      let tested : notches && (ahead && bounds) ≡ first && short && limit =
+      sym (and-assoc notches ahead bounds)
       ∙ ap₂ _&&_ (ap₂ _&&_ f g) (b ∙ ap (λ k. ltb (w .moves) k && limit) t)
       ∙ sym (and-assoc first short limit) in
       rw (le-leb (w .n) 48 h, e) tested

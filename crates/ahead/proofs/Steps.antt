@@ -9,9 +9,9 @@ use lib.Dec.{eqb}
 use lib.ListN.{length, getD, set, take, drop}
 use lib.Seq.{length-take-le}
 use Rattle.gray.specs.Answers.{given}
-use Rattle.gray.specs.Directions.{movedFrom, turnedAt, standsIn}
+use Rattle.gray.specs.Directions.{movedFrom, turnedAt, digitInRange}
 use Rattle.gray.specs.Engines.{ended, refusedWith}
-use Rattle.gray.specs.Stances.{allBelow-each}
+use Rattle.gray.specs.DigitRanges.{allBelow-each}
 use Rattle.gray.specs.declared.Stepping.the-variants.{Moved}
 use Rattle.ahead.specs.declared.Producer.{Producer}
 use Rattle.ahead.specs.declared.Progress.{Progress}
@@ -98,10 +98,10 @@ module _ (radices : List ℕ) (n c : ℕ) (counter queue : List ℕ) (at : Progr
 
 -- ---- advance
 module _ (w : Walk) (k : ℕ) (ok : Movable w k) (place : ℕ) (wide : place ≡ k) where
-  pub digit-stands : standsIn (getD (w .radices) (place - 1) 0) (getD (w .word) (place - 1) 0) (getD (w .downs) (place - 1) false)
+  pub digit-ranged : digitInRange (getD (w .radices) (place - 1) 0) (getD (w .word) (place - 1) 0) (getD (w .downs) (place - 1) false)
       ≡ true
-  digit-stands =
-      allBelow-each (w .n) (λ i. standsIn (getD (w .radices) i 0) (getD (w .word) i 0) (getD (w .downs) i false)) (ok .stance)
+  digit-ranged =
+      allBelow-each (w .n) (λ i. digitInRange (getD (w .radices) i 0) (getD (w .word) i 0) (getD (w .downs) i false)) (ok .notches)
       (place - 1)
       (omega arith)
 
@@ -176,7 +176,7 @@ module _ (w : Walk) (s : Ranged w) (room : length (w .radices) ≡ 48) where
         let oldest = producing-says (survey w) (w .capacity) (assembled counter queue at) (r .ahead) .entries 0 (omega arith) in
         record {
           survey = record { room = room; most = s .most; two = sound .two };
-          stance = s .stance;
+          notches = s .notches;
           from-one = oldest .from-one;
           digit = omega arith;
           small = omega arith;

@@ -12,11 +12,11 @@ use lib.ListN.{length, getD, drop, set, length-append, length-drop, length-set, 
 use lib.Seq.{length-take-le, getD-drop, getD-set-same, getD-set-other, getD-append-seam}
 use Rattle.gray.specs.Bools.{impossible}
 use Rattle.gray.specs.Digits.{radix-from}
-use Rattle.gray.specs.Directions.{inStance}
+use Rattle.gray.specs.Directions.{digitsInRange}
 use Rattle.gray.specs.Radices.{allFrom, size}
 use Rattle.gray.specs.Reversals.{allFrom-reverse}
 use Rattle.gray.specs.Sizes.{allFrom-append}
-use Rattle.gray.specs.Stances.{allBelow-each, each-allBelow}
+use Rattle.gray.specs.DigitRanges.{allBelow-each, each-allBelow}
 use Rattle.ahead.specs.declared.Producer.{Producer}
 use Rattle.ahead.specs.declared.Walk.{Walk}
 use Rattle.ahead.specs.States.{survey, openCheck, isGiven, places, isPlace, counterInRange, entriesInRange, producing, stepLimit, inRange}
@@ -203,46 +203,35 @@ entries-set ms l k v room at entries i h =
       | no n ↦ subst (IsPlace ms) (sym (getD-set-other l k i v 0 n)) (entries i (omega arith))
     ]
 
-work-in-range : (ms : List ℕ) (c : ℕ) (p : Producer)
-    → allFrom 2 ms ≡ true
-    → length (p .counter) ≡ 49
-    → length ms ≤ 48
-    → length (p .queue) ≡ 32
-    → c ≤ 32
-    → Producing ms c p
-    → Working ms c p
-    → Producing ms c (work ms c p)
-unfolding done
-work-in-range ms c p two long most wide small s (carries e digit) =
-    let radix = place-two ms (p .place - 1) two (omega arith) in
-    subst (λ k. Producing ms c (done k p)) (sym e)
-    (record {
-      counts = counts-set ms (p .counter) (p .place - 1) 0 (omega arith) (omega arith) (s .counts);
-      at = record { from-one = omega arith; last = omega arith };
-      entries = s .entries;
-      held = s .held;
-    })
-work-in-range ms c p two long most wide small s (appends e room free) =
-    subst (λ k. Producing ms c (done k p)) (sym e)
-    (record {
-      counts = counts-set ms (p .counter) (p .place - 1) (countAt p + 1) (omega arith) room (s .counts);
-      at = record { from-one = omega arith; last = omega arith };
-      entries = entries-set ms (p .queue) (p .queued) (p .place) (omega arith) (s .at) (s .entries);
-      held = omega arith;
-    })
-work-in-range ms c p two long most wide small s (idles e) = subst (λ k. Producing ms c (done k p)) (sym e) s
+module _
+    (ms : List ℕ) (c : ℕ) (p : Producer) (two : allFrom 2 ms ≡ true) (long : length (p .counter) ≡ 49) (most : length ms ≤ 48)
+    (wide : length (p .queue) ≡ 32) (small : c ≤ 32)
+  where
+    work-in-range : Producing ms c p → Working ms c p → Producing ms c (work ms c p)
+    unfolding done
+    work-in-range s (carries e digit) =
+        let radix = place-two ms (p .place - 1) two (omega arith) in
+        subst (λ k. Producing ms c (done k p)) (sym e)
+        (record {
+          counts = counts-set ms (p .counter) (p .place - 1) 0 (omega arith) (omega arith) (s .counts);
+          at = record { from-one = omega arith; last = omega arith };
+          entries = s .entries;
+          held = s .held;
+        })
+    work-in-range s (appends e room free) =
+        subst (λ k. Producing ms c (done k p)) (sym e)
+        (record {
+          counts = counts-set ms (p .counter) (p .place - 1) (countAt p + 1) (omega arith) room (s .counts);
+          at = record { from-one = omega arith; last = omega arith };
+          entries = entries-set ms (p .queue) (p .queued) (p .place) (omega arith) (s .at) (s .entries);
+          held = omega arith;
+        })
+    work-in-range s (idles e) = subst (λ k. Producing ms c (done k p)) (sym e) s
 
-pub work-keeps : (ms : List ℕ) (c : ℕ) (p : Producer)
-    → allFrom 2 ms ≡ true
-    → length (p .counter) ≡ 49
-    → length ms ≤ 48
-    → length (p .queue) ≡ 32
-    → c ≤ 32
-    → producing ms c p ≡ true
-    → producing ms c (work ms c p) ≡ true
-work-keeps ms c p two long most wide small ranged =
-    let s = producing-says ms c p ranged in
-    says-producing ms c (work ms c p) (work-in-range ms c p two long most wide small s (working ms c p two s))
+    pub work-keeps : producing ms c p ≡ true → producing ms c (work ms c p) ≡ true
+    work-keeps ranged =
+        let s = producing-says ms c p ranged in
+        says-producing ms c (work ms c p) (work-in-range s (working ms c p two s))
 
 -- ---- removals
 -- entry i of the shorter queue is entry i + 1
@@ -284,7 +273,7 @@ shorter-keeps ms c p ranged wide some =
 pub record Ranged (w : Walk) : Type 0 where
   pub most : w .n ≤ 48
   pub opens : isGiven (openCheck (survey w) (w .capacity)) ≡ true
-  pub stance : inStance (w .n) (w .radices) (w .word) (w .downs) ≡ true
+  pub notches : digitsInRange (w .n) (w .radices) (w .word) (w .downs) ≡ true
   pub ahead : producing (survey w) (w .capacity) (w .producer) ≡ true
   pub rank : w .moves < size (survey w)
   pub steps : w .producer .steps ≤ stepLimit (w .moves) (w .ended)
@@ -296,26 +285,26 @@ module _ (w : Walk) where
       let most = le-leb (w .n) 48 (s .most) in
       let rank = lt-ltb (w .moves) (size (survey w)) (s .rank) in
       let steps = le-leb (w .producer .steps) (stepLimit (w .moves) (w .ended)) (s .steps) in
-      rw (most, s .opens, s .stance, s .ahead, rank, steps)
+      rw (most, s .opens, s .notches, s .ahead, rank, steps)
 
   pub range-says : inRange w ≡ true → Ranged w
   unfolding inRange
   range-says e =
       let most = leb (w .n) 48 in
       let opens = isGiven (openCheck (survey w) (w .capacity)) in
-      let stance = inStance (w .n) (w .radices) (w .word) (w .downs) in
+      let notches = digitsInRange (w .n) (w .radices) (w .word) (w .downs) in
       let ahead = producing (survey w) (w .capacity) (w .producer) in
       let rank = ltb (w .moves) (size (survey w)) in
       let steps = leb (w .producer .steps) (stepLimit (w .moves) (w .ended)) in
-      let (five, s) = and-eq-true-iff (most && opens && stance && ahead && rank) steps .0 e in
-      let (four, r) = and-eq-true-iff (most && opens && stance && ahead) rank .0 five in
-      let (three, a) = and-eq-true-iff (most && opens && stance) ahead .0 four in
-      let (two, t) = and-eq-true-iff (most && opens) stance .0 three in
+      let (five, s) = and-eq-true-iff (most && opens && notches && ahead && rank) steps .0 e in
+      let (four, r) = and-eq-true-iff (most && opens && notches && ahead) rank .0 five in
+      let (three, a) = and-eq-true-iff (most && opens && notches) ahead .0 four in
+      let (two, t) = and-eq-true-iff (most && opens) notches .0 three in
       let (one, o) = and-eq-true-iff most opens .0 two in
       record {
         most = leb-true (w .n) 48 one;
         opens = o;
-        stance = t;
+        notches = t;
         ahead = a;
         rank = ltb-true (w .moves) (size (survey w)) r;
         steps = leb-true (w .producer .steps) (stepLimit (w .moves) (w .ended)) s;

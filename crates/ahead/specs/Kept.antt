@@ -9,7 +9,7 @@ use lib.ListN.{getD, length-append, length-drop, length-set}
 use lib.Seq.{getD-take}
 use Rattle.gray.specs.Engines.{refusedWith}
 use Rattle.gray.specs.Radices.{size}
-use Rattle.gray.specs.Stances.{stance-move}
+use Rattle.gray.specs.DigitRanges.{digits-move-in-range}
 use Rattle.ahead.specs.declared.Walk.{Walk}
 use Rattle.ahead.specs.States.{survey, producing, stepLimit, inRange}
 use Rattle.ahead.specs.Calls.{twice, faulty, over, dry, removing, course, shorter, endOf, moveOf, stepBy, stepOf}
@@ -103,7 +103,7 @@ module _ (w : Walk) (a : Arrays w) (ranged : inRange w ≡ true) where
       (record {
         most = s .most;
         opens = s .opens;
-        stance = s .stance;
+        notches = s .notches;
         ahead = removed-in-range some;
         rank = s .rank;
         steps = omega arith;
@@ -119,9 +119,9 @@ module _ (w : Walk) (a : Arrays w) (ranged : inRange w ≡ true) where
       (record {
         most = s .most;
         opens = s .opens;
-        stance =
-            stance-move (w .n) (w .radices) (w .word) (w .downs) (k - 1) (omega arith) (omega arith) (omega arith) (omega arith)
-            (s .stance);
+        notches =
+            digits-move-in-range (w .n) (w .radices) (w .word) (w .downs) (k - 1) (omega arith) (omega arith) (omega arith) (omega arith)
+            (s .notches);
         ahead = removed-in-range some;
         rank = rw e at rank;
         steps = omega arith;

@@ -12,9 +12,9 @@ use Rattle.gray.specs.Radices.{size, allFrom}
 use Rattle.gray.specs.Changes.{ruler}
 use Rattle.gray.specs.Rulers.{ruler-pos}
 use Rattle.gray.specs.Members.{wordAt, length-wordAt}
-use Rattle.gray.specs.Directions.{standsIn, inStance}
-use Rattle.gray.specs.Stances.{each-allBelow}
-use Rattle.gray.specs.Turns.{downsAt, length-downsAt, walk-stands}
+use Rattle.gray.specs.Directions.{digitInRange, digitsInRange}
+use Rattle.gray.specs.DigitRanges.{each-allBelow}
+use Rattle.gray.specs.Turns.{downsAt, length-downsAt, walk-in-range}
 use Rattle.ahead.specs.declared.Producer.{Producer}
 use Rattle.ahead.specs.States.{isGiven, survey, places, producing, stepLimit, inRange}
 use Rattle.ahead.specs.Calls.{filled}
@@ -74,17 +74,17 @@ module _ (ms : List ℕ) (c : ℕ) (v : Openable ms c) (t k p : ℕ) (at : Posit
       })
 
 -- ---- the whole state
-stance-filled : (ms : List ℕ) → allFrom 2 ms ≡ true → (t : ℕ)
-    → inStance (length ms) (filled 48 0 ms) (filled 48 0 (wordAt ms t)) (filled 48 false (downsAt ms t)) ≡ true
-stance-filled ms two t =
+digits-filled : (ms : List ℕ) → allFrom 2 ms ≡ true → (t : ℕ)
+    → digitsInRange (length ms) (filled 48 0 ms) (filled 48 0 (wordAt ms t)) (filled 48 false (downsAt ms t)) ≡ true
+digits-filled ms two t =
     each-allBelow (length ms)
-    (λ i. standsIn (getD (filled 48 0 ms) i 0) (getD (filled 48 0 (wordAt ms t)) i 0) (getD (filled 48 false (downsAt ms t)) i false))
+    (λ i. digitInRange (getD (filled 48 0 ms) i 0) (getD (filled 48 0 (wordAt ms t)) i 0) (getD (filled 48 false (downsAt ms t)) i false))
     (λ i h.
     let a = length-wordAt ms t in
     let b = length-downsAt ms t in
     rw
     (getD-filled 48 0 ms i 0 h, getD-filled 48 0 (wordAt ms t) i 0 (omega arith), getD-filled 48 false (downsAt ms t) i false (omega arith))
-    (walk-stands ms two t i h))
+    (walk-in-range ms two t i h))
 
 -- a state of the run, running or ended, is in range
 pub state-ranged : (ms : List ℕ) (c t : ℕ) (over : Bool) (q : Producer)
@@ -99,7 +99,7 @@ state-ranged ms c t over q v below ranged limit =
     (record {
       most = v .most;
       opens = rw survey-is (ap isGiven (opens v));
-      stance = stance-filled ms (v .two) t;
+      notches = digits-filled ms (v .two) t;
       ahead = rw survey-is ranged;
       rank = rw survey-is below;
       steps = limit;

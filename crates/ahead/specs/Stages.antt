@@ -5,7 +5,7 @@ use mathlib.Core.Bool.{Bool, true}
 use mathlib.Core.List.{List}
 use lib.ListN.{length, getD, take}
 use Rattle.gray.specs.Radices.{allFrom}
-use Rattle.gray.specs.Directions.{standsIn, inStance}
+use Rattle.gray.specs.Directions.{digitInRange, digitsInRange}
 use Rattle.ahead.specs.declared.Producer.{Producer}
 use Rattle.ahead.specs.declared.Progress.{Progress}
 use Rattle.ahead.specs.declared.Walk.{Walk}
@@ -41,7 +41,7 @@ pub record Workable (radices : List ℕ) (n c : ℕ) (counter queue : List ℕ) 
 -- what a move of digit k asks for
 pub record Movable (w : Walk) (k : ℕ) : Type 0 where
   pub survey : Radices (w .radices) (w .n)
-  pub stance : inStance (w .n) (w .radices) (w .word) (w .downs) ≡ true
+  pub notches : digitsInRange (w .n) (w .radices) (w .word) (w .downs) ≡ true
   pub from-one : 1 ≤ k
   pub digit : k ≤ w .n
   pub small : w .moves + 1 < 2 ^ 64

@@ -7,7 +7,7 @@ use lib.Dec.{eqb, ltb, leb}
 use lib.ListN.{length, getD, take}
 use Rattle.gray.specs.Answers.{Answer, given, refused, refusing}
 use Rattle.gray.specs.Radices.{size, ofRadices}
-use Rattle.gray.specs.Directions.{allBelow, inStance}
+use Rattle.gray.specs.Directions.{allBelow, digitsInRange}
 use Rattle.ahead.specs.declared.Producer.{Producer}
 use Rattle.ahead.specs.declared.Walk.{Walk}
 
@@ -67,7 +67,7 @@ unfoldable pub inRange : Walk → Bool
 inRange w =
     leb (w .n) 48
     && isGiven (openCheck (survey w) (w .capacity))
-    && inStance (w .n) (w .radices) (w .word) (w .downs)
+    && digitsInRange (w .n) (w .radices) (w .word) (w .downs)
     && producing (survey w) (w .capacity) (w .producer)
     && ltb (w .moves) (size (survey w))
     && leb (w .producer .steps) (stepLimit (w .moves) (w .ended))

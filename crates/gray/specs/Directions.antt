@@ -20,9 +20,9 @@ allBelow zero test = true
 allBelow (suc n) test = allBelow n test && test n
 
 -- a notch and a direction in range: a < m; the direction is up at 0 and down at m − 1
-abbrev pub standsIn : ℕ → ℕ → Bool → Bool
-standsIn m a down = ltb a m && not (eqb a 0 && down) && not (eqb a (m - 1) && not down)
+abbrev pub digitInRange : ℕ → ℕ → Bool → Bool
+digitInRange m a down = ltb a m && not (eqb a 0 && down) && not (eqb a (m - 1) && not down)
 
 -- the range rule for the setting and the directions of n digits
-abbrev pub inStance : ℕ → List ℕ → List ℕ → List Bool → Bool
-inStance n radices word downs = allBelow n (λ i. standsIn (getD radices i 0) (getD word i 0) (getD downs i false))
+abbrev pub digitsInRange : ℕ → List ℕ → List ℕ → List Bool → Bool
+digitsInRange n radices word downs = allBelow n (λ i. digitInRange (getD radices i 0) (getD word i 0) (getD downs i false))

@@ -26,7 +26,7 @@ pub mod Sizes
 pub mod Increments
 pub mod Digits
 pub mod Refusals
-pub mod Stances
+pub mod DigitRanges
 pub mod Reversals
 -- what private functions answer
 pub mod Stages

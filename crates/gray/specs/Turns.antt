@@ -13,12 +13,12 @@ use lib.Seq.{getD-set-same}
 use Rattle.gray.specs.Radices.{size, allFrom}
 use Rattle.gray.specs.Words.{even, reflect}
 use Rattle.gray.specs.Changes.{Moves, Moves.up, Moves.down, Moves.next, ruler, descends}
-use Rattle.gray.specs.Directions.{movedFrom, turnedAt, standsIn}
+use Rattle.gray.specs.Directions.{movedFrom, turnedAt, digitInRange}
 use Rattle.gray.specs.Members.{wordAt, length-wordAt}
 use Rattle.gray.specs.Rulers.{ruler-carry, ruler-no-carry, descends-carry, descends-no-carry, wordAt-moves, moves-within}
 use Rattle.gray.specs.Sizes.{quotient-below}
 use Rattle.gray.specs.Increments.{Increment, Increment.no-carry, Increment.carry, increment, even-suc}
-use Rattle.gray.specs.Stances.{Stands, says-stands}
+use Rattle.gray.specs.DigitRanges.{DigitRange, says-digit}
 
 -- digit 1 goes down where (r + 1) / m is odd, which turns it at its ends; the slower digits have the directions of rank r / m
 unfoldable pub downsAt : List ℕ → ℕ → List Bool
@@ -47,32 +47,32 @@ downsAt-start (m ∷ ms) e =
 
 -- ---- every digit stands in range
 -- digit 1 at rank r
-first-stands : (m r : ℕ) → 2 ≤ m → Increment m r → Stands m (reflect m (r / m) (r % m)) (not (even (suc r / m)))
-first-stands m r two (no-carry q b below) = rw q (on (even (r / m)))
+first-in-range : (m r : ℕ) → 2 ≤ m → Increment m r → DigitRange m (reflect m (r / m) (r % m)) (not (even (suc r / m)))
+first-in-range m r two (no-carry q b below) = rw q (on (even (r / m)))
   where
-    on : (e : Bool) → Stands m (cond e (r % m) (m - 1 - r % m)) (not e)
+    on : (e : Bool) → DigitRange m (cond e (r % m) (m - 1 - r % m)) (not e)
     on true = record { below = omega arith; up-at-0 = λ z. refl; down-at-top = λ t. absurd (omega arith) }
     on false = record { below = omega arith; up-at-0 = λ z. absurd (omega arith); down-at-top = λ t. refl }
-first-stands m r two (carry q b whole) = rw (q, even-suc (r / m), Bool·not-not (even (r / m))) (turned (even (r / m)))
+first-in-range m r two (carry q b whole) = rw (q, even-suc (r / m), Bool·not-not (even (r / m))) (turned (even (r / m)))
   where
-    turned : (e : Bool) → Stands m (cond e (r % m) (m - 1 - r % m)) e
+    turned : (e : Bool) → DigitRange m (cond e (r % m) (m - 1 - r % m)) e
     turned true = record { below = omega arith; up-at-0 = λ z. absurd (omega arith); down-at-top = λ t. refl }
     turned false = record { below = omega arith; up-at-0 = λ z. refl; down-at-top = λ t. absurd (omega arith) }
 
-pub walk-stands : (ms : List ℕ)
+pub walk-in-range : (ms : List ℕ)
     → allFrom 2 ms ≡ true
     → (r i : ℕ)
     → i < length ms
-    → standsIn (getD ms i 0) (getD (wordAt ms r) i 0) (getD (downsAt ms r) i false) ≡ true
+    → digitInRange (getD ms i 0) (getD (wordAt ms r) i 0) (getD (downsAt ms r) i false) ≡ true
 unfolding wordAt downsAt allFrom
-walk-stands [] e r i h = absurd (omega arith)
-walk-stands (m ∷ ms) e r zero h =
+walk-in-range [] e r i h = absurd (omega arith)
+walk-in-range (m ∷ ms) e r zero h =
     let (first, others) = and-eq-true-iff (leb 2 m) (allFrom 2 ms) .0 e in
     let two : 2 ≤ m = leb-true 2 m first in
-    says-stands m (reflect m (r / m) (r % m)) (not (even (suc r / m))) (first-stands m r two (increment m r (omega arith)))
-walk-stands (m ∷ ms) e r (suc i) h =
+    says-digit m (reflect m (r / m) (r % m)) (not (even (suc r / m))) (first-in-range m r two (increment m r (omega arith)))
+walk-in-range (m ∷ ms) e r (suc i) h =
     let (first, others) = and-eq-true-iff (leb 2 m) (allFrom 2 ms) .0 e in
-    walk-stands ms others (r / m) i (omega arith)
+    walk-in-range ms others (r / m) i (omega arith)
 
 -- ---- a move along the list
 -- a word that is moved is the word with its digit's notch replaced

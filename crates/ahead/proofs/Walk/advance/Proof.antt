@@ -1,6 +1,6 @@
 -- `ahead::Walk::advance` meets its contract: the digit stands in range, so that it has a notch to move to. Assumes nothing.
 use borrow.Author.Needs.{needs}
-use Rattle.ahead.proofs.Steps.{digit-stands, digit-radix, digit-moved}
+use Rattle.ahead.proofs.Steps.{digit-ranged, digit-radix, digit-moved}
 use Rattle.ahead.proofs.Walk.advance.Statement.{statement}
 use Rattle.ahead.proofs.Walk.advance.Tie as tie
 
@@ -20,7 +20,7 @@ array-read-moved : tie.Need-array-read-moved
 array-read-moved c = search needs
 
 moved-requires : tie.Need-moved-requires
-moved-requires c κs = digit-stands _ _ (c .before .before .before .before .pre) _ (c .wide .ensures .0)
+moved-requires c κs = digit-ranged _ _ (c .before .before .before .before .pre) _ (c .wide .ensures .0)
 
 array-write-word : tie.Need-array-write-word
 array-write-word c = search needs

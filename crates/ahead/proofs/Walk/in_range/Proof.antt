@@ -7,7 +7,7 @@ use lib.ListN.{take}
 use lib.Seq.{length-take-le}
 use Rattle.gray.specs.Answers.{given}
 use Rattle.gray.specs.Calls.{countedAs, sizeCall}
-use Rattle.gray.specs.Directions.{inStance}
+use Rattle.gray.specs.Directions.{digitsInRange}
 use Rattle.ahead.specs.States.{survey}
 use Rattle.ahead.specs.Stages.{Radices}
 use Rattle.ahead.specs.InRange.{Arrays}
@@ -87,20 +87,20 @@ returns-3 c =
     let w = start (c .before) .args .self in
     not-open w (capacity-tested (survey w) (w .capacity) _ true (size-is (c .before)) (c .if2 .taken))
 
-slice-aggregate-in-stance : tie.Need-slice-aggregate-in-stance
-slice-aggregate-in-stance c = search needs
+slice-aggregate-digits-in-range : tie.Need-slice-aggregate-digits-in-range
+slice-aggregate-digits-in-range c = search needs
 
 wide-requires-2 : tie.Need-wide-requires-2
 wide-requires-2 c κs = search needs
 
-slice-aggregate-in-stance-2 : tie.Need-slice-aggregate-in-stance-2
-slice-aggregate-in-stance-2 c = search needs
+slice-aggregate-digits-in-range-2 : tie.Need-slice-aggregate-digits-in-range-2
+slice-aggregate-digits-in-range-2 c = search needs
 
-slice-aggregate-in-stance-3 : tie.Need-slice-aggregate-in-stance-3
-slice-aggregate-in-stance-3 c = search needs
+slice-aggregate-digits-in-range-3 : tie.Need-slice-aggregate-digits-in-range-3
+slice-aggregate-digits-in-range-3 c = search needs
 
-in-stance-requires : tie.Need-in-stance-requires
-in-stance-requires c κs =
+digits-in-range-requires : tie.Need-digits-in-range-requires
+digits-in-range-requires c κs =
     let told = passed c .before in
     let long = lengths (start told) in
     (subst (Radices _) (sym (c .before .before .wide2 .ensures .0)) (radices-fit told), long .word, long .downs)
@@ -125,14 +125,14 @@ within-requires c κs = accepted-total _ _ (size-is (passed (c .before .before .
 
 returns-4 : tie.Need-returns-4
 returns-4 c =
-    let stance = c .before .before .before .before .before in
-    let at = passed (stance .before) in
+    let notches = c .before .before .before .before .before in
+    let at = passed (notches .before) in
     let told = at .before in
     let w = start told .args .self in
-    let tested : stance .in-stance .result ≡ inStance (w .n) (w .radices) (w .word) (w .downs) =
-    subst (λ k. stance .in-stance .result ≡ inStance k (w .radices) (w .word) (w .downs))
-    (stance .before .before .before .wide2 .ensures .0)
-    (stance .in-stance .ensures) in
+    let tested : notches .digits-in-range .result ≡ digitsInRange (w .n) (w .radices) (w .word) (w .downs) =
+    subst (λ k. notches .digits-in-range .result ≡ digitsInRange k (w .radices) (w .word) (w .downs))
+    (notches .before .before .before .wide2 .ensures .0)
+    (notches .digits-in-range .ensures) in
     state-tested w _ _ _ _
     (told .before .before .before .before .before .before .before .if1 .left)
     (capacity-tested (survey w) (w .capacity) _ false (size-is told) (at .if2 .left))
@@ -154,11 +154,11 @@ in-range-spec =
     enum-told
     returns-2
     returns-3
-    slice-aggregate-in-stance
+    slice-aggregate-digits-in-range
     wide-requires-2
-    slice-aggregate-in-stance-2
-    slice-aggregate-in-stance-3
-    in-stance-requires
+    slice-aggregate-digits-in-range-2
+    slice-aggregate-digits-in-range-3
+    digits-in-range-requires
     slice-aggregate-producer-in-range
     slice-aggregate-producer-in-range-2
     slice-aggregate-producer-in-range-3

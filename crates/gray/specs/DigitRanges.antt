@@ -9,7 +9,7 @@ use borrow.Author.Tests.{lt-ltb, ltb-true, eq-eqb, ne-eqb, not-true, not-false}
 use lib.Dec.{eqb, ltb}
 use lib.ListN.{length, getD, set}
 use lib.Seq.{getD-set-same, getD-set-other}
-use Rattle.gray.specs.Directions.{movedFrom, turnedAt, allBelow, standsIn, inStance}
+use Rattle.gray.specs.Directions.{movedFrom, turnedAt, allBelow, digitInRange, digitsInRange}
 use Rattle.gray.specs.Bools.{impossible}
 
 -- ---- a test over all numbers below n
@@ -36,13 +36,13 @@ allBelow-same (suc n) f g same = ap₂ _&&_ (allBelow-same n f g (λ i h. same i
 
 -- ---- one digit
 -- what it says that notch a and its direction are in range
-pub record Stands (m a : ℕ) (down : Bool) : Type 0 where
+pub record DigitRange (m a : ℕ) (down : Bool) : Type 0 where
   pub below : a < m
   pub up-at-0 : a ≡ 0 → down ≡ false
   pub down-at-top : a ≡ m - 1 → down ≡ true
 
-pub stands-says : (m a : ℕ) (down : Bool) → standsIn m a down ≡ true → Stands m a down
-stands-says m a down e =
+pub digit-says : (m a : ℕ) (down : Bool) → digitInRange m a down ≡ true → DigitRange m a down
+digit-says m a down e =
     let (lower, top) = and-eq-true-iff (ltb a m && not (eqb a 0 && down)) (not (eqb a (m - 1) && not down)) .0 e in
     let (below, bottom) = and-eq-true-iff (ltb a m) (not (eqb a 0 && down)) .0 lower in
     record {
@@ -51,20 +51,20 @@ stands-says m a down e =
       down-at-top = λ z. not-false down (not-true (not down) (rw (eq-eqb a (m - 1) z) at top));
     }
 
-pub says-stands : (m a : ℕ) (down : Bool) → Stands m a down → standsIn m a down ≡ true
-says-stands m a true s =
+pub says-digit : (m a : ℕ) (down : Bool) → DigitRange m a down → digitInRange m a down ≡ true
+says-digit m a true s =
     rw (lt-ltb a m (s .below), ne-eqb a 0 (λ z. impossible (cc (s .up-at-0 z))), and-false)
-says-stands m a false s =
+says-digit m a false s =
     rw (lt-ltb a m (s .below), ne-eqb a (m - 1) (λ z. impossible (cc (s .down-at-top z))), and-false)
 
 -- a digit that has come to notch b, turned where it must be, stands in range
-turned-stands : (m b : ℕ) (down : Bool)
+turned-in-range : (m b : ℕ) (down : Bool)
     → b < m
     → (b ≡ 0 → down ≡ true)
     → (b ≡ m - 1 → down ≡ false)
     → (b ≡ 0 → b ≡ m - 1 → ⊥)
-    → Stands m b (turnedAt m b down)
-turned-stands m b down below at-0 at-top apart =
+    → DigitRange m b (turnedAt m b down)
+turned-in-range m b down below at-0 at-top apart =
     elim (ℕ-discrete b 0) [
       | yes z ↦ record { below = below; up-at-0 = λ y. rw (eq-eqb b 0 z, at-0 z); down-at-top = λ t. absurd (apart z t) }
       | no nz ↦
@@ -77,54 +77,54 @@ turned-stands m b down below at-0 at-top apart =
     ]
 
 -- a digit that moves in its direction, and turns where it must, stands in range again
-pub stands-move : (m a : ℕ) (down : Bool)
+pub digit-moves-in-range : (m a : ℕ) (down : Bool)
     → 2 ≤ m
-    → standsIn m a down ≡ true
-    → standsIn m (movedFrom a down) (turnedAt m (movedFrom a down) down) ≡ true
-stands-move m a true two e =
-    let s = stands-says m a true e in
+    → digitInRange m a down ≡ true
+    → digitInRange m (movedFrom a down) (turnedAt m (movedFrom a down) down) ≡ true
+digit-moves-in-range m a true two e =
+    let s = digit-says m a true e in
     let off-0 : a ≡ 0 → ⊥ = λ z. impossible (cc (s .up-at-0 z)) in
-    says-stands m (a - 1) (turnedAt m (a - 1) true)
-    (turned-stands m (a - 1) true (omega arith) (λ z. refl) (λ t. absurd (off-0 (omega arith))) (λ z t. omega arith))
-stands-move m a false two e =
-    let s = stands-says m a false e in
+    says-digit m (a - 1) (turnedAt m (a - 1) true)
+    (turned-in-range m (a - 1) true (omega arith) (λ z. refl) (λ t. absurd (off-0 (omega arith))) (λ z t. omega arith))
+digit-moves-in-range m a false two e =
+    let s = digit-says m a false e in
     let off-top : a ≡ m - 1 → ⊥ = λ t. impossible (cc (s .down-at-top t)) in
-    says-stands m (a + 1) (turnedAt m (a + 1) false)
-    (turned-stands m (a + 1) false (omega arith) (λ z. absurd (omega arith)) (λ t. refl) (λ z t. omega arith))
+    says-digit m (a + 1) (turnedAt m (a + 1) false)
+    (turned-in-range m (a + 1) false (omega arith) (λ z. absurd (omega arith)) (λ t. refl) (λ z t. omega arith))
 
--- ---- the digits of a stance
+-- ---- all digits
 -- one digit's notch and direction are replaced by others in range: all digits stand in range
-pub stance-set : (n : ℕ) (radices word : List ℕ) (downs : List Bool) (i a : ℕ) (down : Bool)
+pub digits-set-in-range : (n : ℕ) (radices word : List ℕ) (downs : List Bool) (i a : ℕ) (down : Bool)
     → n ≤ length word
     → n ≤ length downs
-    → standsIn (getD radices i 0) a down ≡ true
-    → inStance n radices word downs ≡ true
-    → inStance n radices (set word i a) (set downs i down) ≡ true
-stance-set n radices word downs i a down lw ld stands e =
-    each-allBelow n (λ j. standsIn (getD radices j 0) (getD (set word i a) j 0) (getD (set downs i down) j false))
+    → digitInRange (getD radices i 0) a down ≡ true
+    → digitsInRange n radices word downs ≡ true
+    → digitsInRange n radices (set word i a) (set downs i down) ≡ true
+digits-set-in-range n radices word downs i a down lw ld stands e =
+    each-allBelow n (λ j. digitInRange (getD radices j 0) (getD (set word i a) j 0) (getD (set downs i down) j false))
     (λ j h.
     elim (ℕ-discrete j i) [
       | yes at ↦ rw (at, getD-set-same word i a 0 (omega arith), getD-set-same downs i down false (omega arith)) stands
       | no other ↦
           rw (getD-set-other word i j a 0 other, getD-set-other downs i j down false other)
-          (allBelow-each n (λ k. standsIn (getD radices k 0) (getD word k 0) (getD downs k false)) e j h)
+          (allBelow-each n (λ k. digitInRange (getD radices k 0) (getD word k 0) (getD downs k false)) e j h)
     ])
 
--- a digit of a stance moves: all digits stand in range again
-pub stance-move : (n : ℕ) (radices word : List ℕ) (downs : List Bool) (i : ℕ)
+-- one of digits in range moves: all are in range again
+pub digits-move-in-range : (n : ℕ) (radices word : List ℕ) (downs : List Bool) (i : ℕ)
     → i < n
     → n ≤ length word
     → n ≤ length downs
     → 2 ≤ getD radices i 0
-    → inStance n radices word downs ≡ true
-    → inStance n radices (set word i (movedFrom (getD word i 0) (getD downs i false)))
+    → digitsInRange n radices word downs ≡ true
+    → digitsInRange n radices (set word i (movedFrom (getD word i 0) (getD downs i false)))
     (set downs i (turnedAt (getD radices i 0) (movedFrom (getD word i 0) (getD downs i false)) (getD downs i false)))
     ≡ true
-stance-move n radices word downs i h lw ld two e =
-    let here = allBelow-each n (λ k. standsIn (getD radices k 0) (getD word k 0) (getD downs k false)) e i h in
-    stance-set n radices word downs i (movedFrom (getD word i 0) (getD downs i false))
+digits-move-in-range n radices word downs i h lw ld two e =
+    let here = allBelow-each n (λ k. digitInRange (getD radices k 0) (getD word k 0) (getD downs k false)) e i h in
+    digits-set-in-range n radices word downs i (movedFrom (getD word i 0) (getD downs i false))
     (turnedAt (getD radices i 0) (movedFrom (getD word i 0) (getD downs i false)) (getD downs i false))
     lw
     ld
-    (stands-move (getD radices i 0) (getD word i 0) (getD downs i false) two here)
+    (digit-moves-in-range (getD radices i 0) (getD word i 0) (getD downs i false) two here)
     e

@@ -1,11 +1,11 @@
--- `ahead::stands` meets its contract. Assumes nothing.
+-- `ahead::digit_in_range` meets its contract. Assumes nothing.
 use Prim.Native.Nat.{_-_}
 use mathlib.Core.Path.{sym}
 use mathlib.Core.Bool.{_&&_, not, and-assoc}
 use borrow.Author.Needs.{needs}
 use lib.Dec.{eqb, ltb}
-use Rattle.ahead.proofs.stands.Statement.{statement}
-use Rattle.ahead.proofs.stands.Tie as tie
+use Rattle.ahead.proofs.digit_in_range.Statement.{statement}
+use Rattle.ahead.proofs.digit_in_range.Tie as tie
 
 sub-result : tie.Need-sub-result
 sub-result c = search needs
@@ -17,5 +17,5 @@ returns c =
     let down = c .args .down in
     sym (and-assoc (ltb a m) (not (eqb a 0 && down)) (not (eqb a (m - 1) && not down)))
 
-pub stands-spec : {M : Type 1} → statement M
-stands-spec = tie.close (tie.spec sub-result returns)
+pub digit-in-range-spec : {M : Type 1} → statement M
+digit-in-range-spec = tie.close (tie.spec sub-result returns)
