@@ -20,6 +20,7 @@ use Rattle.ahead.specs.declared.Walk.{Walk}
 use Rattle.ahead.specs.States.{places}
 use Rattle.ahead.specs.Work.{Work, carry, append, idle, countAt, radixAt, runOut, kind, done}
 use Rattle.ahead.specs.Calls.{filled}
+use Rattle.ahead.specs.InRange.{carries-on as kind-carry, appends-one as kind-append, stays-full as kind-idle}
 use Rattle.ahead.specs.Filled.{getD-filled, set-filled, filled-append}
 use Rattle.ahead.specs.Counters.{mixedDigits, cleared, length-mixedDigits, length-cleared, cleared-at, carry-test, carry-clears, append-counts, ruler-most, ruler-places, allFrom-places, length-places}
 use Rattle.ahead.specs.Openings.{Openable}
@@ -194,33 +195,37 @@ module _ (ms : List ℕ) (c : ℕ) (v : Openable ms c) (t k p : ℕ) (at : Posit
       ∙ filled-append 32 0 (entries ms t k) (suc p) (omega arith)
       ∙ ap (λ (x : ℕ). filled 32 0 (entries ms t k ++ (x ∷ []))) last
 
+  -- all carries are made
+  no-carry : suc p ≡ ruler ms (suc (t + k)) → eqb (countAt (producerAt ms t k p)) (radixAt ms (producerAt ms t k p) - 1) ≡ false
+  no-carry h = test-is ∙ le-ltb (suc p) (ruler ms (suc (t + k))) (omega arith)
+
   carries-on : suc p < ruler ms (suc (t + k)) → Does ms c t k p carry k (suc p)
-  unfolding finished kind done
+  unfolding finished done
   carries-on h =
       record {
         numbers = carried h;
-        is-kind = rw (not-run-out, test-is, lt-ltb (suc p) (ruler ms (suc (t + k))) h);
+        is-kind = kind-carry ms c (producerAt ms t k p) not-run-out (test-is ∙ lt-ltb (suc p) (ruler ms (suc (t + k))) h);
         leaves = same-producer cleared-more (add-one (suc p)) refl refl (omega arith);
       }
 
   appends-one : suc p ≡ ruler ms (suc (t + k)) → k < c → Does ms c t k p append (suc k) 0
-  unfolding finished kind done
+  unfolding finished done
   appends-one h room =
       let cap = v .capacity in
       let w : Worked ms c t k p append (suc k) 0 = appended h room in
       let n : stepsAt ms t (suc k) 0 ≡ stepsAt ms t k p + 1 = unfold gained in work-steps (v .two) w in
       record {
         numbers = w;
-        is-kind = rw (not-run-out, test-is, le-ltb (suc p) (ruler ms (suc (t + k))) (omega arith), lt-ltb k c room);
+        is-kind = kind-append ms c (producerAt ms t k p) not-run-out (no-carry h) (lt-ltb k c room);
         leaves = same-producer (counted-more h) refl (queued-more h (omega arith)) (add-one k) (sym n);
       }
 
   stays-idle : suc p ≡ ruler ms (suc (t + k)) → k ≡ c → Does ms c t k p idle k p
-  unfolding finished kind done
+  unfolding finished done
   stays-idle h full =
       record {
         numbers = idled h full;
-        is-kind = rw (not-run-out, test-is, le-ltb (suc p) (ruler ms (suc (t + k))) (omega arith), le-ltb k c (omega arith));
+        is-kind = kind-idle ms c (producerAt ms t k p) not-run-out (no-carry h) (le-ltb k c (omega arith));
         leaves = refl;
       }
 

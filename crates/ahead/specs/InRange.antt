@@ -125,13 +125,13 @@ module _ (ms : List ℕ) (c : ℕ) (p : Producer) where
     unfolding kind
     carries-on e = rw (goes-on, e)
 
-    pub appends-one : eqb (countAt p) (radixAt ms p - 1) ≡ false → ltb (p .queued) c ≡ true → kind ms c p ≡ append
-    unfolding kind
-    appends-one e q = rw (goes-on, e, q)
-
     pub stays-full : eqb (countAt p) (radixAt ms p - 1) ≡ false → ltb (p .queued) c ≡ false → kind ms c p ≡ idle
     unfolding kind
     stays-full e q = rw (goes-on, e, q)
+
+    pub appends-one : eqb (countAt p) (radixAt ms p - 1) ≡ false → ltb (p .queued) c ≡ true → kind ms c p ≡ append
+    unfolding kind
+    appends-one e q = rw (goes-on, e, q)
 
 -- what each kind of work step tells of a producer in range: a carry stands at the place of a digit, since b = 1 at the last place
 -- is the idle rule; an append finds room for a greater count and for an entry

@@ -22,6 +22,7 @@ use Rattle.ahead.specs.Work.{Work}
 use Rattle.ahead.specs.Calls.{filled, fresh, Course, removing, course, stepBy, stepOf}
 use Rattle.ahead.specs.Runs.{state, answer, eventsBy, events}
 use Rattle.ahead.specs.Demand.{NamesChange}
+use Rattle.ahead.specs.Kept.{goes-over}
 use Rattle.ahead.specs.Filled.{filled-replicate}
 use Rattle.ahead.specs.Counters.{mixedDigits, mixed-start, length-places}
 use Rattle.ahead.specs.Entries.{cost-zero}
@@ -274,7 +275,7 @@ module _ (ms : List ℕ) (c last : ℕ) (v : Openable ms c) (whole : size ms ≡
       state-ranged ms c last true (producerAt ms (size ms) k′ (r .p₂)) v (omega arith)
       (producer-ranged ms c v (size ms) k′ (r .p₂) at)
       (omega arith) in
-      let again : course stop ≡ Course.over = rw ranged in
+      let again : course stop ≡ Course.over = goes-over stop ranged refl in
       let stays : stepOf stop ≡ record { state = stop; answer = given ended } = ap (stepBy stop) again in
       let arrives : state w (size ms) ≡ stop = ap (state w) (sym end) ∙ there ∙ reach in
       record {

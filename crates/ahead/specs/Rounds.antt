@@ -3,10 +3,8 @@ use Prim.Native.Nat.{ℕ, suc, _+_, _-_, _*_, _≤_, _<_}
 use native.Mathlib.Numerals.{add-one}
 use native.Mathlib.Omega.{arith}
 use mathlib.Core.Path.{_≡_, refl, sym, ap, ap₂, _∙_}
-use mathlib.Core.Bool.{Bool, true, false, cond}
+use mathlib.Core.Bool.{Bool, true, false}
 use mathlib.Core.List.{List, [], _∷_, _++_}
-use borrow.Author.Tests.{eq-eqb, ne-eqb}
-use lib.Dec.{eqb}
 use lib.ListN.{length, getD, drop}
 use Rattle.gray.specs.Answers.{given}
 use Rattle.gray.specs.Radices.{size}
@@ -21,8 +19,9 @@ use Rattle.ahead.specs.declared.Producer.{Producer}
 use Rattle.ahead.specs.declared.Walk.{Walk}
 use Rattle.ahead.specs.States.{survey, places, inRange}
 use Rattle.ahead.specs.Work.{Work, runOut, kind, done, work}
-use Rattle.ahead.specs.Calls.{filled, once, twice, dry, removing, course, shorter, endOf, moveOf, removalOf, stepBy, stepOf}
+use Rattle.ahead.specs.Calls.{filled, once, twice, dry, removing, course, shorter, endOf, moveOf, stepOf}
 use Rattle.ahead.specs.Runs.{eventsBy}
+use Rattle.ahead.specs.Kept.{goes-dry, goes-removing, removes-last, removes-digit}
 use Rattle.ahead.specs.Filled.{take-filled, getD-filled, set-filled, filled-drop}
 use Rattle.ahead.specs.Counters.{mixedDigits, cleared}
 use Rattle.ahead.specs.Openings.{Openable}
@@ -151,53 +150,50 @@ module _ (ms : List ℕ) (c : ℕ) (v : Openable ms c) (t k p : ℕ) (at : Posit
   pub running-ranged : inRange (running ms c t k p) ≡ true
   running-ranged = state-ranged ms c t false (producerAt ms t k p) v below (producer-ranged ms c v t k p at) (omega arith)
 
-  course-is : (r : Round ms c t k p) → course (running ms c t k p) ≡ cond (eqb (r .k₂) 0) dry removing
-  unfolding course
-  course-is r = rw running-ranged (ap (λ (q : Producer). cond (eqb (q .queued) 0) dry removing) (r .twice-is))
+  queued-is : (r : Round ms c t k p) → twice (running ms c t k p) .queued ≡ r .k₂
+  queued-is r = ap (λ (q : Producer). q .queued) (r .twice-is)
 
-  -- the queue is empty: refusal 10, the state as it came, and no work step counts
+  -- the queue is empty: the call is dry
   pub dry-call : (r : Round ms c t k p) → r .k₂ ≡ 0 → course (running ms c t k p) ≡ dry
-  dry-call r none = course-is r ∙ ap (λ (b : Bool). cond b dry removing) (eq-eqb (r .k₂) 0 none)
+  dry-call r none = goes-dry (running ms c t k p) running-ranged refl (queued-is r ∙ none)
 
+  -- it holds an entry: the oldest is removed
   pub removing-call : (r : Round ms c t k p) (k′ : ℕ) → r .k₂ ≡ suc k′ → course (running ms c t k p) ≡ removing
-  removing-call r k′ some = course-is r ∙ ap (λ (b : Bool). cond b dry removing) (ne-eqb (r .k₂) 0 (λ z. omega arith))
+  removing-call r k′ some =
+      let e = queued-is r in goes-removing (running ms c t k p) running-ranged refl (λ none. omega arith)
 
-  -- the entry is removed
-  removal-is : (r : Round ms c t k p) (k′ : ℕ)
-      → r .k₂ ≡ suc k′
-      → stepOf (running ms c t k p) ≡ removalOf (running ms c t k p) (ruler ms (suc t)) (producerAt ms (suc t) k′ (r .p₂))
-  unfolding stepOf
-  removal-is r k′ some =
-      let at₁ = work-position at (r .first) in
-      let fits = work-position at₁ (r .second) .fits in
-      let cap = v .capacity in
-      let two : twice (running ms c t k p) ≡ producerAt ms t (suc k′) (r .p₂) =
-      r .twice-is ∙ ap (λ (j : ℕ). producerAt ms t j (r .p₂)) some in
-      ap (stepBy (running ms c t k p)) (removing-call r k′ some)
-      ∙ ap₂ (removalOf (running ms c t k p))
-      (ap (λ (q : Producer). getD (q .queue) 0 0) two ∙ oldest ms t k′)
-      (ap shorter two ∙ shorter-is ms t k′ (r .p₂) (omega arith))
+  module _ (r : Round ms c t k p) (k′ : ℕ) (some : r .k₂ ≡ suc k′) where
+    twice-is-one-more : twice (running ms c t k p) ≡ producerAt ms t (suc k′) (r .p₂)
+    twice-is-one-more = r .twice-is ∙ ap (λ (j : ℕ). producerAt ms t j (r .p₂)) some
 
-  -- it is a digit's: the change of the list
-  pub move-call : (r : Round ms c t k p) (k′ : ℕ)
-      → r .k₂ ≡ suc k′
-      → suc t < size ms
-      → stepOf (running ms c t k p)
-      ≡ record { state = running ms c (suc t) k′ (r .p₂); answer = given (moved (change ms (suc t))) }
-  move-call r k′ some more =
-      let (i, a) = walk-advances ms (v .two) t more in
-      let inside = a .within in
-      removal-is r k′ some
-      ∙ rw (a .digit, ne-eqb (suc i) (length ms + 1) (λ z. omega arith))
-      (move-is ms c t i (producerAt ms t k p) (producerAt ms (suc t) k′ (r .p₂)) a more)
+    oldest-is : getD (twice (running ms c t k p) .queue) 0 0 ≡ ruler ms (suc t)
+    oldest-is = ap (λ (q : Producer). getD (q .queue) 0 0) twice-is-one-more ∙ oldest ms t k′
 
-  -- it is the last: the end
-  pub end-call : (r : Round ms c t k p) (k′ : ℕ)
-      → r .k₂ ≡ suc k′
-      → suc t ≡ size ms
-      → stepOf (running ms c t k p)
-      ≡ record { state = walkAt ms c t true (producerAt ms (suc t) k′ (r .p₂)); answer = given ended }
-  unfolding endOf
-  end-call r k′ some last =
-      let e : ruler ms (suc t) ≡ suc (length ms) = ap (ruler ms) last ∙ ruler-at-end ms (one ms (v .two)) in
-      removal-is r k′ some ∙ rw (e, eq-eqb (suc (length ms)) (length ms + 1) (omega arith))
+    left-is : shorter (twice (running ms c t k p)) ≡ producerAt ms (suc t) k′ (r .p₂)
+    left-is =
+        let at₁ = work-position at (r .first) in
+        let fits = work-position at₁ (r .second) .fits in
+        let cap = v .capacity in
+        ap shorter twice-is-one-more ∙ shorter-is ms t k′ (r .p₂) (omega arith)
+
+    -- it is a digit's: the change of the list
+    pub move-call : suc t < size ms
+        → stepOf (running ms c t k p)
+        ≡ record { state = running ms c (suc t) k′ (r .p₂); answer = given (moved (change ms (suc t))) }
+    move-call more =
+        let (i, a) = walk-advances ms (v .two) t more in
+        let inside = a .within in
+        let digit = oldest-is ∙ a .digit in
+        removes-digit (running ms c t k p) (removing-call r k′ some) (λ last. omega arith)
+        ∙ ap₂ (moveOf (running ms c t k p)) digit left-is
+        ∙ move-is ms c t i (producerAt ms t k p) (producerAt ms (suc t) k′ (r .p₂)) a more
+
+    -- it is the last: the end
+    pub end-call : suc t ≡ size ms
+        → stepOf (running ms c t k p)
+        ≡ record { state = walkAt ms c t true (producerAt ms (suc t) k′ (r .p₂)); answer = given ended }
+    unfolding endOf
+    end-call last =
+        let e : ruler ms (suc t) ≡ suc (length ms) = ap (ruler ms) last ∙ ruler-at-end ms (one ms (v .two)) in
+        let n : suc (length ms) ≡ length ms + 1 = omega arith in
+        removes-last (running ms c t k p) (removing-call r k′ some) (oldest-is ∙ e ∙ n) ∙ ap (endOf (running ms c t k p)) left-is
