@@ -234,6 +234,11 @@ module _
         says-producing ms c (work ms c p) (work-in-range s (working ms c p two s))
 
 -- ---- removals
+-- the array keeps its length
+pub shorter-long : (p : Producer) → 0 < length (p .queue) → length (shorter p .queue) ≡ length (p .queue)
+unfolding shorter
+shorter-long p some = simp (length-append, length-drop) (omega arith)
+
 -- entry i of the shorter queue is entry i + 1
 next-entry : (l : List ℕ) (i : ℕ) → i + 1 < length l → getD (drop 1 l ++ (0 ∷ [])) i 0 ≡ getD l (i + 1) 0
 next-entry l i h =

@@ -13,7 +13,7 @@ use Rattle.gray.specs.DigitRanges.{digits-move-in-range}
 use Rattle.ahead.specs.declared.Walk.{Walk}
 use Rattle.ahead.specs.States.{survey, producing, stepLimit, inRange}
 use Rattle.ahead.specs.Calls.{twice, faulty, over, dry, removing, course, shorter, endOf, moveOf, stepBy, stepOf}
-use Rattle.ahead.specs.InRange.{Arrays, producing-says, radix-two, shorter-keeps, range-says, says-range, survey-openable, survey-long, reached-twice}
+use Rattle.ahead.specs.InRange.{Arrays, producing-says, radix-two, shorter-long, shorter-keeps, range-says, says-range, survey-openable, survey-long, reached-twice}
 
 -- ---- calls
 -- the tests of a call, in their order
@@ -141,7 +141,7 @@ module _ (w : Walk) (a : Arrays w) (ranged : inRange w ≡ true) where
         word = a .word;
         downs = a .downs;
         counter = r .counter;
-        queue = simp (length-append, length-drop) (omega arith);
+        queue = shorter-long (twice w) (omega arith) ∙ r .queue;
       })
   arrays-after (moves k going some low high e) =
       let r = reached-twice w (range-says w ranged) a in
@@ -151,7 +151,7 @@ module _ (w : Walk) (a : Arrays w) (ranged : inRange w ≡ true) where
         word = simp length-set (a .word);
         downs = simp length-set (a .downs);
         counter = r .counter;
-        queue = simp (length-append, length-drop) (omega arith);
+        queue = shorter-long (twice w) (omega arith) ∙ r .queue;
       })
 
   pub arrays-kept : Arrays (stepOf w .state)
