@@ -14,7 +14,6 @@ use lib.Seq.{length-take-le, take-length, take-suc, append-snoc, getD-take, getD
 use Rattle.gray.specs.Answers.{Answer, given, refused, refusing}
 use Rattle.gray.specs.Bools.{impossible, neither}
 use Rattle.gray.specs.Radices.{digits, size}
-use Rattle.gray.specs.Digits.{radix-from}
 use Rattle.gray.specs.Directions.{allBelow, digitInRange, digitsInRange}
 use Rattle.gray.specs.Calls.{sizeCall}
 use Rattle.gray.specs.Refusals.{accepted, radices-refused, radices-accepted}
@@ -23,19 +22,7 @@ use Rattle.gray.specs.DigitRanges.{digit-says}
 use Rattle.gray.specs.Reversals.{allFrom-reverse, size-reverse, ofRadices-reverse}
 use Rattle.ahead.specs.declared.Progress.{Progress}
 use Rattle.ahead.specs.declared.Walk.{Walk}
-use Rattle.ahead.specs.States.{
-  wrongCapacity,
-  openCheck,
-  isGiven,
-  survey,
-  places,
-  isPlace,
-  counterInRange,
-  entriesInRange,
-  producing,
-  stepLimit,
-  inRange,
-}
+use Rattle.ahead.specs.States.{wrongCapacity, openCheck, isGiven, survey, places, isPlace, counterInRange, entriesInRange, producerInRange, stepLimit, inRange}
 use Rattle.ahead.specs.Calls.{filled, freshWith, fresh, openWith, openOf}
 use Rattle.ahead.specs.InRange.{radix-two as two-or-more}
 use Rattle.ahead.specs.Stages.{assembled, Radices}
@@ -128,8 +115,8 @@ digit-at (a ∷ l) i h =
 
 -- ---- the producer
 module _ (l : List ℕ) (n c : ℕ) (counter queue : List ℕ) (at : Progress) where
-  pub queue-over : c < at .queued → false ≡ producing (take n l) c (assembled counter queue at)
-  unfolding producing
+  pub queue-over : c < at .queued → false ≡ producerInRange (take n l) c (assembled counter queue at)
+  unfolding producerInRange
   queue-over h =
       let ms = take n l in
       let others = counterInRange ms counter && isPlace ms (at .place) && entriesInRange ms (at .queued) queue in
@@ -141,8 +128,8 @@ module _ (l : List ℕ) (n c : ℕ) (counter queue : List ℕ) (at : Progress) w
       → counted ≡ counterInRange (take n l) counter
       → place ≡ leb 1 (at .place) && leb (at .place) (n + 1)
       → entries ≡ allBelow (at .queued) (λ i. leb 1 (getD queue i 0) && leb (getD queue i 0) (n + 1))
-      → counted && (place && entries) ≡ producing (take n l) c (assembled counter queue at)
-  unfolding producing
+      → counted && (place && entries) ≡ producerInRange (take n l) c (assembled counter queue at)
+  unfolding producerInRange
   producer-tested counted place entries room h e f g =
       let long = sym (length-take-le n l room) in
       let f' = f ∙ ap (λ k. leb 1 (at .place) && leb (at .place) (k + 1)) long in
@@ -223,7 +210,7 @@ module _ (w : Walk) where
       → w .n ≤ 48
       → isGiven (openCheck (survey w) (w .capacity)) ≡ true
       → notches ≡ digitsInRange (w .n) (w .radices) (w .word) (w .downs)
-      → ahead ≡ producing (survey w) (w .capacity) (w .producer)
+      → ahead ≡ producerInRange (survey w) (w .capacity) (w .producer)
       → total ≡ size (survey w)
       → bounds ≡ ltb (w .moves) total && leb (w .producer .steps) (stepLimit (w .moves) (w .ended))
       → notches && (ahead && bounds) ≡ inRange w
@@ -231,7 +218,7 @@ module _ (w : Walk) where
   state-tested total notches ahead bounds h e f g t b =
       let limit = leb (w .producer .steps) (stepLimit (w .moves) (w .ended)) in
       let short = ltb (w .moves) (size (survey w)) in
-      let first = digitsInRange (w .n) (w .radices) (w .word) (w .downs) && producing (survey w) (w .capacity) (w .producer) in
+      let first = digitsInRange (w .n) (w .radices) (w .word) (w .downs) && producerInRange (survey w) (w .capacity) (w .producer) in
       let tested : notches && (ahead && bounds) ≡ first && short && limit =
       sym (and-assoc notches ahead bounds)
       ∙ ap₂ _&&_ (ap₂ _&&_ f g) (b ∙ ap (λ k. ltb (w .moves) k && limit) t)

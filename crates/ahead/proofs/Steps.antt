@@ -18,9 +18,9 @@ use Rattle.ahead.specs.declared.Progress.{Progress}
 use Rattle.ahead.specs.declared.Walk.{Walk}
 use Rattle.ahead.specs.States.{survey, places, inRange}
 use Rattle.ahead.specs.Work.{countAt, radixAt, runOut, done, work}
-use Rattle.ahead.specs.Calls.{steppedAs, twice, course, removing, shorter, endOf, moveOf, stepBy, stepOf}
+use Rattle.ahead.specs.Calls.{steppedAs, twice, course, removing, dequeued, endOf, moveOf, stepBy, stepOf}
 use Rattle.ahead.specs.Stages.{assembled, Workable, Movable}
-use Rattle.ahead.specs.InRange.{place-two, producing-says, runs-out, carries-on, appends-one, stays-full, count-grows, Ranged, survey-openable, survey-long, Reached, reached-more}
+use Rattle.ahead.specs.InRange.{place-two, producer-says, runs-out, carries-on, appends-one, stays-full, count-grows, Ranged, survey-openable, survey-long, Reached, reached-more}
 use Rattle.ahead.specs.Kept.{goes-faulty, goes-over, goes-dry, goes-removing, removes-last, removes-digit}
 use Rattle.ahead.proofs.Ranges.{radix-two}
 
@@ -76,7 +76,7 @@ module _ (radices : List ℕ) (n c : ℕ) (counter queue : List ℕ) (at : Progr
 
           pub count-room : count + 1 < m
           count-room =
-              let s = producing-says (take n radices) c before (ok .ranged) in
+              let s = producer-says (take n radices) c before (ok .ranged) in
               rw (wide, radix) (count-grows (take n radices) c before (ok .survey .two) s not-top)
 
           pub appended : (queued : ℕ)
@@ -155,7 +155,7 @@ module _ (w : Walk) (s : Ranged w) (room : length (w .radices) ≡ 48) where
     workable h =
         let sound = survey-openable w s in
         let long = survey-long w s room in
-        let here = producing-says (survey w) (w .capacity) (assembled counter queue at) (r .ahead) .at in
+        let here = producer-says (survey w) (w .capacity) (assembled counter queue at) (r .ahead) .at in
         let two = at-most-two (w .ended) in
         record {
           survey = record { room = room; most = s .most; two = sound .two };
@@ -173,7 +173,7 @@ module _ (w : Walk) (s : Ranged w) (room : length (w .radices) ≡ 48) where
     movable some other =
         let sound = survey-openable w s in
         let long = survey-long w s room in
-        let oldest = producing-says (survey w) (w .capacity) (assembled counter queue at) (r .ahead) .entries 0 (omega arith) in
+        let oldest = producer-says (survey w) (w .capacity) (assembled counter queue at) (r .ahead) .entries 0 (omega arith) in
         record {
           survey = record { room = room; most = s .most; two = sound .two };
           notches = s .notches;
@@ -195,11 +195,11 @@ module _
       abbrev shortened : Producer
       shortened = record { counter = counter; place = at .place; queue = next; queued = at .queued - 1; steps = at .steps }
 
-      is-shorter : shortened ≡ shorter (twice w)
-      unfolding shorter
-      is-shorter =
+      is-dequeued : shortened ≡ dequeued (twice w)
+      unfolding dequeued
+      is-dequeued =
           ap (λ q. record { counter = counter; place = at .place; queue = q; queued = at .queued - 1; steps = at .steps }) shifted
-          ∙ ap shorter left
+          ∙ ap dequeued left
 
       oldest : getD queue 0 0 ≡ getD (twice w .queue) 0 0
       oldest = ap (λ p. getD (p .queue) 0 0) left
@@ -208,7 +208,7 @@ module _
       removes = goes-removing w ranged going (λ none. some (ap (λ p. p .queued) left ∙ none))
 
       pub ends : getD queue 0 0 ≡ w .n + 1 → endOf w shortened ≡ stepOf w
-      ends last = ap (endOf w) is-shorter ∙ sym (removes-last w removes (sym oldest ∙ last))
+      ends last = ap (endOf w) is-dequeued ∙ sym (removes-last w removes (sym oldest ∙ last))
 
       pub moves-digit : (getD queue 0 0 ≡ w .n + 1 → ⊥) → moveOf w (getD queue 0 0) shortened ≡ stepOf w
-      moves-digit other = ap₂ (moveOf w) oldest is-shorter ∙ sym (removes-digit w removes (λ last. other (oldest ∙ last)))
+      moves-digit other = ap₂ (moveOf w) oldest is-dequeued ∙ sym (removes-digit w removes (λ last. other (oldest ∙ last)))

@@ -79,8 +79,8 @@ course w =
     (cond (eqb (twice w .queued) 0) dry removing))
 
 -- the queue stands with the oldest entry first; the others move up, and 0 comes in at the array's end
-unfoldable pub shorter : Producer → Producer
-shorter p = record {
+unfoldable pub dequeued : Producer → Producer
+dequeued p = record {
   counter = p .counter;
   place = p .place;
   queue = drop 1 (p .queue) ++ (0 ∷ []);
@@ -133,7 +133,7 @@ abbrev pub stepBy : Walk → Course → Handed Walk Event
 stepBy w faulty = refusedWith 7 w
 stepBy w over = record { state = w; answer = given ended }
 stepBy w dry = refusedWith 10 w
-stepBy w removing = removalOf w (getD (twice w .queue) 0 0) (shorter (twice w))
+stepBy w removing = removalOf w (getD (twice w .queue) 0 0) (dequeued (twice w))
 
 unfoldable pub stepOf : Walk → Handed Walk Event
 stepOf w = stepBy w (course w)

@@ -10,7 +10,6 @@ use mathlib.Core.List.{List, [], _∷_, _++_}
 use borrow.Author.Tests.{eq-eqb, ne-eqb, lt-ltb, le-ltb}
 use lib.Dec.{eqb, ltb}
 use lib.ListN.{length, getD, set, length-append}
-use lib.Seq.{getD-append-seam}
 use Rattle.gray.specs.Radices.{size}
 use Rattle.gray.specs.Changes.{ruler}
 use Rattle.gray.specs.Members.{wordAt}
@@ -20,7 +19,7 @@ use Rattle.ahead.specs.declared.Walk.{Walk}
 use Rattle.ahead.specs.States.{places}
 use Rattle.ahead.specs.Work.{Work, carry, append, idle, countAt, radixAt, runOut, kind, done}
 use Rattle.ahead.specs.Calls.{filled}
-use Rattle.ahead.specs.InRange.{carries-on as kind-carry, appends-one as kind-append, stays-full as kind-idle}
+use Rattle.ahead.specs.InRange.{last-is-two, carries-on as kind-carry, appends-one as kind-append, stays-full as kind-idle}
 use Rattle.ahead.specs.Filled.{getD-filled, set-filled, filled-append}
 use Rattle.ahead.specs.Counters.{mixedDigits, cleared, length-mixedDigits, length-cleared, cleared-at, carry-test, carry-clears, append-counts, ruler-most, ruler-places, allFrom-places, length-places}
 use Rattle.ahead.specs.Openings.{Openable}
@@ -146,7 +145,7 @@ module _ (ms : List ℕ) (c : ℕ) (v : Openable ms c) (t k p : ℕ) (at : Posit
         | yes q ↦
             let r = ruler-most ms (suc (t + k)) in
             let two : getD (places ms) (suc p - 1) 0 ≡ 2 =
-            ap (λ (i : ℕ). getD (places ms) i 0) (index ∙ q) ∙ getD-append-seam ms 2 [] 0 in
+            ap (λ (i : ℕ). getD (places ms) i 0) (index ∙ q) ∙ last-is-two ms in
             let no-more : eqb (countAt (producerAt ms t k p)) (2 - 1) ≡ false =
             ap (λ (m : ℕ). eqb (countAt (producerAt ms t k p)) (m - 1)) (sym two)
             ∙ test-is

@@ -16,7 +16,7 @@ use Rattle.ahead.specs.declared.Producer.{Producer}
 use Rattle.ahead.specs.declared.Walk.{Walk}
 use Rattle.ahead.specs.States.{survey, inRange}
 use Rattle.ahead.specs.Work.{Work, carry, append, idle, countAt, radixAt, runOut, kind, done, work}
-use Rattle.ahead.specs.Calls.{fresh, once, twice, Course, course, shorter, endOf, moveOf, stepBy, stepOf}
+use Rattle.ahead.specs.Calls.{fresh, once, twice, Course, course, dequeued, endOf, moveOf, stepBy, stepOf}
 use Rattle.ahead.specs.Runs.{state, answer, events, Accepting}
 use Rattle.ahead.specs.Demand.{Within, Finished, StepsCounted, NamesChange, WalksTheList, RunsDry, WorksAhead, StaysInRange}
 use Rattle.ahead.specs.Openings.{Openable}
@@ -61,7 +61,7 @@ not-7 w r e = by (w .ended) (eqb (twice w .queued) 0) (rw r at e)
     by : (over empty : Bool) → stepBy w (cond over Course.over (cond empty Course.dry Course.removing)) .answer ≡ refused 7 → ⊥
     by true empty e = impossible (cc)
     by false true e = let z : _≡_ {A = ℕ} 10 7 = cc in omega arith
-    by false false e = removal-given w (eqb (getD (twice w .queue) 0 0) (w .n + 1)) (getD (twice w .queue) 0 0) 7 (shorter (twice w)) e
+    by false false e = removal-given w (eqb (getD (twice w .queue) 0 0) (w .n + 1)) (getD (twice w .queue) 0 0) 7 (dequeued (twice w)) e
 
 -- ---- the states of a run
 -- the rest of a run stands still
@@ -81,21 +81,21 @@ end-from {ms} {w = w} e j h =
     ]
 
 -- the state after T calls is that of a walk that goes on after t, or that of the end
-data Standing (ms : List ℕ) (c last : ℕ) (w : Walk) (T : ℕ) : Type 0 where
-  on-the-way : (t : ℕ) (g : Going ms c last w t)
+data Reaches (ms : List ℕ) (c last : ℕ) (w : Walk) (T : ℕ) : Type 0 where
+  going-on : (t : ℕ) (g : Going ms c last w t)
       → state w T ≡ running ms c t (g .k) (g .p)
       → events w T ≡ events w t
-      → Standing ms c last w T
-  at-the-end : (e : Ending ms c last w)
+      → Reaches ms c last w T
+  ended-at : (e : Ending ms c last w)
       → state w T ≡ walkAt ms c last true (producerAt ms (size ms) (e .k) (e .p))
       → events w T ≡ events w (size ms)
-      → Standing ms c last w T
+      → Reaches ms c last w T
 
-standing : {ms : List ℕ} {c last : ℕ} {w : Walk} {T : ℕ} → Phase ms c last w T → Standing ms c last w T
-standing {T = T} (going g) = on-the-way T g (g .is-state) refl
-standing {T = T} (dried t u h g d) =
-    let (there, same) = rest (d .still) T (omega arith) in on-the-way t g (there ∙ sym (d .still .there) ∙ g .is-state) same
-standing {T = T} (over h e) = let (there, same) = rest (e .still) T h in at-the-end e there same
+reaches : {ms : List ℕ} {c last : ℕ} {w : Walk} {T : ℕ} → Phase ms c last w T → Reaches ms c last w T
+reaches {T = T} (going g) = going-on T g (g .is-state) refl
+reaches {T = T} (dried t u h g d) =
+    let (there, same) = rest (d .still) T (omega arith) in going-on t g (there ∙ sym (d .still .there) ∙ g .is-state) same
+reaches {T = T} (over h e) = let (there, same) = rest (e .still) T h in ended-at e there same
 
 module _ (ms : List ℕ) (c last : ℕ) (v : Openable ms c) (whole : size ms ≡ suc last) where
   run : (T : ℕ) → Phase ms c last (fresh ms c) T
@@ -103,19 +103,19 @@ module _ (ms : List ℕ) (c last : ℕ) (v : Openable ms c) (whole : size ms ≡
 
   -- (a)
   keeps-capacity : (T : ℕ) → Within c (state (fresh ms c) T)
-  keeps-capacity T = by (standing (run T))
+  keeps-capacity T = by (reaches (run T))
     where
-      by : Standing ms c last (fresh ms c) T → Within c (state (fresh ms c) T)
-      by (on-the-way t g e same) = rw e (within (running ms c t (g .k) (g .p)) (g .at .fits))
-      by (at-the-end s e same) = rw e (within (walkAt ms c last true (producerAt ms (size ms) (s .k) (s .p))) (s .at .fits))
+      by : Reaches ms c last (fresh ms c) T → Within c (state (fresh ms c) T)
+      by (going-on t g e same) = rw e (within (running ms c t (g .k) (g .p)) (g .at .fits))
+      by (ended-at s e same) = rw e (within (walkAt ms c last true (producerAt ms (size ms) (s .k) (s .p))) (s .at .fits))
 
   -- (b)
   finishes : (T : ℕ) (before later : List Work) → events (fresh ms c) T ≡ before ++ append ∷ later → Finished ms before
-  finishes T before later here = by (standing (run T))
+  finishes T before later here = by (reaches (run T))
     where
-      by : Standing ms c last (fresh ms c) T → Finished ms before
-      by (on-the-way t g e same) = tally-finished before later (v .two) (g .tallied) (sym same ∙ here)
-      by (at-the-end s e same) = tally-finished before later (v .two) (s .tallied) (sym same ∙ here)
+      by : Reaches ms c last (fresh ms c) T → Finished ms before
+      by (going-on t g e same) = tally-finished before later (v .two) (g .tallied) (sym same ∙ here)
+      by (ended-at s e same) = tally-finished before later (v .two) (s .tallied) (sym same ∙ here)
 
   -- (c)
   counted-at : (t k p : ℕ) (w : Walk)
@@ -189,25 +189,25 @@ module _ (ms : List ℕ) (c last : ℕ) (v : Openable ms c) (whole : size ms ≡
 
   -- ---- every state is in range, and the counter never runs out
   ranged : (T : ℕ) → inRange (state (fresh ms c) T) ≡ true
-  ranged T = by (standing (run T))
+  ranged T = by (reaches (run T))
     where
-      by : Standing ms c last (fresh ms c) T → inRange (state (fresh ms c) T) ≡ true
-      by (on-the-way t g e same) = rw e (running-ranged ms c v t (g .k) (g .p) (g .at) (g .below) (g .low))
-      by (at-the-end s e same) = rw e (s .ranged)
+      by : Reaches ms c last (fresh ms c) T → inRange (state (fresh ms c) T) ≡ true
+      by (going-on t g e same) = rw e (running-ranged ms c v t (g .k) (g .p) (g .at) (g .below) (g .low))
+      by (ended-at s e same) = rw e (s .ranged)
 
   lasts : (T : ℕ)
       → state (fresh ms c) T .ended ≡ false
       → (runOut ms (state (fresh ms c) T .producer) ≡ false) × (runOut ms (once (state (fresh ms c) T)) ≡ false)
-  lasts T not-over = by (standing (run T))
+  lasts T not-over = by (reaches (run T))
     where
-      by : Standing ms c last (fresh ms c) T
+      by : Reaches ms c last (fresh ms c) T
           → (runOut ms (state (fresh ms c) T .producer) ≡ false) × (runOut ms (once (state (fresh ms c) T)) ≡ false)
-      by (on-the-way t g e same) =
+      by (going-on t g e same) =
           let r = round ms c v t (g .k) (g .p) (g .at) (g .below) (g .low) in (
             ap (λ (u : Walk). runOut ms (u .producer)) e ∙ r .lasts-first,
             ap (λ (u : Walk). runOut ms (once u)) e ∙ ap (runOut ms) (r .once-is) ∙ r .lasts-second,
           )
-      by (at-the-end s e same) = let ends : true ≡ false = sym (ap (λ (u : Walk). u .ended) e) ∙ not-over in impossible (cc)
+      by (ended-at s e same) = let ends : true ≡ false = sym (ap (λ (u : Walk). u .ended) e) ∙ not-over in impossible (cc)
 
   pub run-stays-in-range : StaysInRange ms (fresh ms c)
   run-stays-in-range =

@@ -15,14 +15,14 @@ use Rattle.gray.specs.Digits.{radix-from}
 use Rattle.gray.specs.Directions.{digitsInRange}
 use Rattle.gray.specs.Radices.{allFrom, size}
 use Rattle.gray.specs.Reversals.{allFrom-reverse}
-use Rattle.gray.specs.Sizes.{allFrom-append}
 use Rattle.gray.specs.DigitRanges.{allBelow-each, each-allBelow}
 use Rattle.ahead.specs.declared.Producer.{Producer}
 use Rattle.ahead.specs.declared.Walk.{Walk}
-use Rattle.ahead.specs.States.{survey, openCheck, isGiven, places, isPlace, counterInRange, entriesInRange, producing, stepLimit, inRange}
+use Rattle.ahead.specs.States.{survey, openCheck, isGiven, places, isPlace, counterInRange, entriesInRange, producerInRange, stepLimit, inRange}
 use Rattle.ahead.specs.Work.{Work, carry, append, idle, countAt, radixAt, runOut, kind, done, work}
+use Rattle.ahead.specs.Counters.{allFrom-places, length-places}
 use Rattle.ahead.specs.Openings.{Openable, openable}
-use Rattle.ahead.specs.Calls.{once, twice, shorter}
+use Rattle.ahead.specs.Calls.{once, twice, dequeued}
 
 -- the lengths that the arrays of a state have
 pub record Arrays (w : Walk) : Type 0 where
@@ -38,10 +38,10 @@ radix-two ms i two h = radix-from 2 ms i h (allFrom-reverse 2 ms ∙ two)
 
 -- the radix of every place is at least 2, and that of the last is 2
 pub place-two : (ms : List ℕ) (i : ℕ) → allFrom 2 ms ≡ true → i ≤ length ms → 2 ≤ getD (places ms) i 0
-unfolding allFrom
-place-two ms i two h = radix-two (places ms) i (allFrom-append 2 ms (2 ∷ []) ∙ rw two) (simp length-append (omega arith))
+place-two ms i two h =
+    let l = length-places ms in radix-two (places ms) i (allFrom-places 2 ms (omega arith) two) (omega arith)
 
-last-is-two : (ms : List ℕ) → getD (places ms) (length ms) 0 ≡ 2
+pub last-is-two : (ms : List ℕ) → getD (places ms) (length ms) 0 ≡ 2
 last-is-two ms = getD-append-seam ms 2 [] 0
 
 -- ---- the range rule for the producer, part by part
@@ -49,7 +49,7 @@ pub record IsPlace (ms : List ℕ) (i : ℕ) : Type 0 where
   pub from-one : 1 ≤ i
   pub last : i ≤ length ms + 1
 
-pub record Producing (ms : List ℕ) (c : ℕ) (p : Producer) : Type 0 where
+pub record ProducerRange (ms : List ℕ) (c : ℕ) (p : Producer) : Type 0 where
   pub counts : (i : ℕ) → i < length ms + 1 → getD (p .counter) i 0 < getD (places ms) i 0
   pub at : IsPlace ms (p .place)
   pub entries : (i : ℕ) → i < p .queued → IsPlace ms (getD (p .queue) i 0)
@@ -64,9 +64,9 @@ place-says ms i e =
     record { from-one = leb-true 1 i low; last = leb-true i (length ms + 1) high }
 
 module _ (ms : List ℕ) (c : ℕ) (p : Producer) where
-  pub says-producing : Producing ms c p → producing ms c p ≡ true
-  unfolding producing
-  says-producing s =
+  pub says-producer : ProducerRange ms c p → producerInRange ms c p ≡ true
+  unfolding producerInRange
+  says-producer s =
       let one : counterInRange ms (p .counter) ≡ true =
       each-allBelow (length ms + 1) (λ i. ltb (getD (p .counter) i 0) (getD (places ms) i 0))
       (λ i h. lt-ltb (getD (p .counter) i 0) (getD (places ms) i 0) (s .counts i h)) in
@@ -75,9 +75,9 @@ module _ (ms : List ℕ) (c : ℕ) (p : Producer) where
       (λ i h. says-place ms (getD (p .queue) i 0) (s .entries i h)) in
       rw (one, says-place ms (p .place) (s .at), each, le-leb (p .queued) c (s .held))
 
-  pub producing-says : producing ms c p ≡ true → Producing ms c p
-  unfolding producing
-  producing-says e =
+  pub producer-says : producerInRange ms c p ≡ true → ProducerRange ms c p
+  unfolding producerInRange
+  producer-says e =
       let counts = counterInRange ms (p .counter) in
       let at = isPlace ms (p .place) in
       let entries = entriesInRange ms (p .queued) (p .queue) in
@@ -140,7 +140,7 @@ pub data Working (ms : List ℕ) (c : ℕ) (p : Producer) : Type 0 where
   appends : kind ms c p ≡ append → countAt p + 1 < radixAt ms p → p .queued < c → Working ms c p
   idles : kind ms c p ≡ idle → Working ms c p
 
-module _ (ms : List ℕ) (c : ℕ) (p : Producer) (two : allFrom 2 ms ≡ true) (s : Producing ms c p) where
+module _ (ms : List ℕ) (c : ℕ) (p : Producer) (two : allFrom 2 ms ≡ true) (s : ProducerRange ms c p) where
   digit-carries : runOut ms p ≡ false → eqb (countAt p) (radixAt ms p - 1) ≡ true → p .place ≤ length ms
   digit-carries r e =
       let top = eqb-true (countAt p) (radixAt ms p - 1) e in
@@ -207,11 +207,11 @@ module _
     (ms : List ℕ) (c : ℕ) (p : Producer) (two : allFrom 2 ms ≡ true) (long : length (p .counter) ≡ 49) (most : length ms ≤ 48)
     (wide : length (p .queue) ≡ 32) (small : c ≤ 32)
   where
-    work-in-range : Producing ms c p → Working ms c p → Producing ms c (work ms c p)
+    work-in-range : ProducerRange ms c p → Working ms c p → ProducerRange ms c (work ms c p)
     unfolding done
     work-in-range s (carries e digit) =
         let radix = place-two ms (p .place - 1) two (omega arith) in
-        subst (λ k. Producing ms c (done k p)) (sym e)
+        subst (λ k. ProducerRange ms c (done k p)) (sym e)
         (record {
           counts = counts-set ms (p .counter) (p .place - 1) 0 (omega arith) (omega arith) (s .counts);
           at = record { from-one = omega arith; last = omega arith };
@@ -219,27 +219,27 @@ module _
           held = s .held;
         })
     work-in-range s (appends e room free) =
-        subst (λ k. Producing ms c (done k p)) (sym e)
+        subst (λ k. ProducerRange ms c (done k p)) (sym e)
         (record {
           counts = counts-set ms (p .counter) (p .place - 1) (countAt p + 1) (omega arith) room (s .counts);
           at = record { from-one = omega arith; last = omega arith };
           entries = entries-set ms (p .queue) (p .queued) (p .place) (omega arith) (s .at) (s .entries);
           held = omega arith;
         })
-    work-in-range s (idles e) = subst (λ k. Producing ms c (done k p)) (sym e) s
+    work-in-range s (idles e) = subst (λ k. ProducerRange ms c (done k p)) (sym e) s
 
-    pub work-keeps : producing ms c p ≡ true → producing ms c (work ms c p) ≡ true
+    pub work-keeps : producerInRange ms c p ≡ true → producerInRange ms c (work ms c p) ≡ true
     work-keeps ranged =
-        let s = producing-says ms c p ranged in
-        says-producing ms c (work ms c p) (work-in-range s (working ms c p two s))
+        let s = producer-says ms c p ranged in
+        says-producer ms c (work ms c p) (work-in-range s (working ms c p two s))
 
 -- ---- removals
 -- the array keeps its length
-pub shorter-long : (p : Producer) → 0 < length (p .queue) → length (shorter p .queue) ≡ length (p .queue)
-unfolding shorter
-shorter-long p some = simp (length-append, length-drop) (omega arith)
+pub dequeued-long : (p : Producer) → 0 < length (p .queue) → length (dequeued p .queue) ≡ length (p .queue)
+unfolding dequeued
+dequeued-long p some = simp (length-append, length-drop) (omega arith)
 
--- entry i of the shorter queue is entry i + 1
+-- entry i of the queue without its oldest is entry i + 1
 next-entry : (l : List ℕ) (i : ℕ) → i + 1 < length l → getD (drop 1 l ++ (0 ∷ [])) i 0 ≡ getD l (i + 1) 0
 next-entry l i h =
     List·getD-append (drop 1 l) (0 ∷ []) 0 i (simp length-drop (omega arith))
@@ -247,7 +247,7 @@ next-entry l i h =
     ∙ ap (λ j. getD l j 0) (add-comm 1 i)
 
 -- past the array's end there is no place
-queue-holds : (ms : List ℕ) (c : ℕ) (p : Producer) → Producing ms c p → p .queued ≤ length (p .queue)
+queue-holds : (ms : List ℕ) (c : ℕ) (p : Producer) → ProducerRange ms c p → p .queued ≤ length (p .queue)
 queue-holds ms c p s =
     elim (decLe (p .queued) (length (p .queue))) [
       | yes h ↦ h
@@ -257,16 +257,16 @@ queue-holds ms c p s =
           absurd (omega arith)
     ]
 
-pub shorter-keeps : (ms : List ℕ) (c : ℕ) (p : Producer)
-    → producing ms c p ≡ true
+pub dequeued-in-range : (ms : List ℕ) (c : ℕ) (p : Producer)
+    → producerInRange ms c p ≡ true
     → length (p .queue) ≡ 32
     → 0 < p .queued
-    → producing ms c (shorter p) ≡ true
-unfolding shorter
-shorter-keeps ms c p ranged wide some =
-    let s = producing-says ms c p ranged in
+    → producerInRange ms c (dequeued p) ≡ true
+unfolding dequeued
+dequeued-in-range ms c p ranged wide some =
+    let s = producer-says ms c p ranged in
     let fits = queue-holds ms c p s in
-    says-producing ms c (shorter p)
+    says-producer ms c (dequeued p)
     (record {
       counts = s .counts;
       at = s .at;
@@ -279,7 +279,7 @@ pub record Ranged (w : Walk) : Type 0 where
   pub most : w .n ≤ 48
   pub opens : isGiven (openCheck (survey w) (w .capacity)) ≡ true
   pub notches : digitsInRange (w .n) (w .radices) (w .word) (w .downs) ≡ true
-  pub ahead : producing (survey w) (w .capacity) (w .producer) ≡ true
+  pub ahead : producerInRange (survey w) (w .capacity) (w .producer) ≡ true
   pub rank : w .moves < size (survey w)
   pub steps : w .producer .steps ≤ stepLimit (w .moves) (w .ended)
 
@@ -298,7 +298,7 @@ module _ (w : Walk) where
       let most = leb (w .n) 48 in
       let opens = isGiven (openCheck (survey w) (w .capacity)) in
       let notches = digitsInRange (w .n) (w .radices) (w .word) (w .downs) in
-      let ahead = producing (survey w) (w .capacity) (w .producer) in
+      let ahead = producerInRange (survey w) (w .capacity) (w .producer) in
       let rank = ltb (w .moves) (size (survey w)) in
       let steps = leb (w .producer .steps) (stepLimit (w .moves) (w .ended)) in
       let (five, s) = and-eq-true-iff (most && opens && notches && ahead && rank) steps .0 e in
@@ -325,7 +325,7 @@ module _ (w : Walk) (s : Ranged w) where
 -- ---- the work steps of a call
 -- a producer that a call has come to by x work steps
 pub record Reached (w : Walk) (x : ℕ) (p : Producer) : Type 0 where
-  pub ahead : producing (survey w) (w .capacity) p ≡ true
+  pub ahead : producerInRange (survey w) (w .capacity) p ≡ true
   pub counter : length (p .counter) ≡ 49
   pub queue : length (p .queue) ≡ 32
   pub steps : p .steps ≤ stepLimit (w .moves) (w .ended) + x

@@ -1,19 +1,20 @@
--- The range rule is kept by every accepted call but one that moves from j = N − 1.
+-- The range rule is kept by every accepted call but one that moves from j = N − 1, whose next call gets 7; so does every call on a
+-- closed walk.
 use Prim.Native.Nat.{ℕ, _+_, _-_, _*_, _≤_, _<_}
 use native.Mathlib.Decide.{ℕ-discrete}
 use native.Mathlib.Omega.{arith}
 use mathlib.Core.Path.{_≡_, refl, sym, ap, subst, _∙_}
 use mathlib.Core.Bool.{Bool, true, false}
 use borrow.Author.Tests.{eq-eqb, ne-eqb}
-use lib.ListN.{getD, length-append, length-drop, length-set}
+use lib.ListN.{getD, length-set}
 use lib.Seq.{getD-take}
 use Rattle.gray.specs.Engines.{refusedWith}
 use Rattle.gray.specs.Radices.{size}
 use Rattle.gray.specs.DigitRanges.{digits-move-in-range}
 use Rattle.ahead.specs.declared.Walk.{Walk}
-use Rattle.ahead.specs.States.{survey, producing, stepLimit, inRange}
-use Rattle.ahead.specs.Calls.{twice, faulty, over, dry, removing, course, shorter, endOf, moveOf, stepBy, stepOf}
-use Rattle.ahead.specs.InRange.{Arrays, producing-says, radix-two, shorter-long, shorter-keeps, range-says, says-range, survey-openable, survey-long, reached-twice}
+use Rattle.ahead.specs.States.{survey, producerInRange, stepLimit, inRange}
+use Rattle.ahead.specs.Calls.{fresh, closedWalk, twice, faulty, over, dry, removing, course, dequeued, endOf, moveOf, stepBy, stepOf}
+use Rattle.ahead.specs.InRange.{Arrays, producer-says, radix-two, dequeued-long, dequeued-in-range, range-says, says-range, survey-openable, survey-long, reached-twice}
 
 -- ---- calls
 -- the tests of a call, in their order
@@ -37,25 +38,25 @@ module _ (w : Walk) where
 
   -- a removal, of the entry n + 1 and of any other
   module _ (removes : course w ≡ removing) where
-    pub removes-last : getD (twice w .queue) 0 0 ≡ w .n + 1 → stepOf w ≡ endOf w (shorter (twice w))
+    pub removes-last : getD (twice w .queue) 0 0 ≡ w .n + 1 → stepOf w ≡ endOf w (dequeued (twice w))
     unfolding stepOf
     removes-last e = ap (stepBy w) removes ∙ rw (eq-eqb (getD (twice w .queue) 0 0) (w .n + 1) e)
 
     pub removes-digit : (getD (twice w .queue) 0 0 ≡ w .n + 1 → ⊥)
-        → stepOf w ≡ moveOf w (getD (twice w .queue) 0 0) (shorter (twice w))
+        → stepOf w ≡ moveOf w (getD (twice w .queue) 0 0) (dequeued (twice w))
     unfolding stepOf
     removes-digit e = ap (stepBy w) removes ∙ rw (ne-eqb (getD (twice w .queue) 0 0) (w .n + 1) e)
 
 -- how a call on a state in range goes: it hands the state back, or it removes an entry, which ends the walk or moves a digit
 pub data Going (w : Walk) : Type 0 where
   stays : stepOf w .state ≡ w → Going w
-  ends : w .ended ≡ false → 0 < twice w .queued → stepOf w ≡ endOf w (shorter (twice w)) → Going w
+  ends : w .ended ≡ false → 0 < twice w .queued → stepOf w ≡ endOf w (dequeued (twice w)) → Going w
   moves : (k : ℕ)
       → w .ended ≡ false
       → 0 < twice w .queued
       → 1 ≤ k
       → k ≤ w .n
-      → stepOf w ≡ moveOf w k (shorter (twice w))
+      → stepOf w ≡ moveOf w k (dequeued (twice w))
       → Going w
 
 pub going : (w : Walk) → Arrays w → inRange w ≡ true → Going w
@@ -72,7 +73,7 @@ going w a ranged = go (w .ended) refl
               let long = survey-long w s (a .radices) in
               let some : 0 < twice w .queued = omega arith in
               let removes = goes-removing w ranged e z in
-              let place = producing-says (survey w) (w .capacity) (twice w) (reached-twice w s a .ahead) .entries 0 some in
+              let place = producer-says (survey w) (w .capacity) (twice w) (reached-twice w s a .ahead) .entries 0 some in
               elim (ℕ-discrete (getD (twice w .queue) 0 0) (w .n + 1)) [
                 | yes l ↦ ends e some (removes-last w removes l)
                 | no d ↦ moves (getD (twice w .queue) 0 0) e some (place .from-one) (omega arith) (removes-digit w removes d)
@@ -81,10 +82,10 @@ going w a ranged = go (w .ended) refl
 
 module _ (w : Walk) (a : Arrays w) (ranged : inRange w ≡ true) where
   -- what is left after a removal
-  removed-in-range : 0 < twice w .queued → producing (survey w) (w .capacity) (shorter (twice w)) ≡ true
+  removed-in-range : 0 < twice w .queued → producerInRange (survey w) (w .capacity) (dequeued (twice w)) ≡ true
   removed-in-range some =
       let r = reached-twice w (range-says w ranged) a in
-      shorter-keeps (survey w) (w .capacity) (twice w) (r .ahead) (r .queue) some
+      dequeued-in-range (survey w) (w .capacity) (twice w) (r .ahead) (r .queue) some
 
   steps-after : w .ended ≡ false → twice w .steps ≤ 2 * w .moves + 2
   steps-after going =
@@ -93,13 +94,13 @@ module _ (w : Walk) (a : Arrays w) (ranged : inRange w ≡ true) where
       omega arith
 
   range-after : Going w → stepOf w .state .moves < size (survey w) → inRange (stepOf w .state) ≡ true
-  unfolding endOf moveOf shorter
+  unfolding endOf moveOf dequeued
   range-after (stays e) rank = rw e ranged
   range-after (ends going some e) rank =
       let s = range-says w ranged in
       let limit = steps-after going in
       ap (λ h. inRange (h .state)) e
-      ∙ says-range (endOf w (shorter (twice w)) .state)
+      ∙ says-range (endOf w (dequeued (twice w)) .state)
       (record {
         most = s .most;
         opens = s .opens;
@@ -115,7 +116,7 @@ module _ (w : Walk) (a : Arrays w) (ranged : inRange w ≡ true) where
       let two = radix-two (survey w) (k - 1) (survey-openable w s .two) (omega arith) in
       let same = getD-take (w .n) (w .radices) (k - 1) 0 (omega arith) in
       ap (λ h. inRange (h .state)) e
-      ∙ says-range (moveOf w k (shorter (twice w)) .state)
+      ∙ says-range (moveOf w k (dequeued (twice w)) .state)
       (record {
         most = s .most;
         opens = s .opens;
@@ -131,7 +132,7 @@ module _ (w : Walk) (a : Arrays w) (ranged : inRange w ≡ true) where
   range-kept rank = range-after (going w a ranged) rank
 
   arrays-after : Going w → Arrays (stepOf w .state)
-  unfolding endOf moveOf shorter
+  unfolding endOf moveOf dequeued
   arrays-after (stays e) = subst Arrays (sym e) a
   arrays-after (ends going some e) =
       let r = reached-twice w (range-says w ranged) a in
@@ -141,7 +142,7 @@ module _ (w : Walk) (a : Arrays w) (ranged : inRange w ≡ true) where
         word = a .word;
         downs = a .downs;
         counter = r .counter;
-        queue = shorter-long (twice w) (omega arith) ∙ r .queue;
+        queue = dequeued-long (twice w) (omega arith) ∙ r .queue;
       })
   arrays-after (moves k going some low high e) =
       let r = reached-twice w (range-says w ranged) a in
@@ -151,7 +152,7 @@ module _ (w : Walk) (a : Arrays w) (ranged : inRange w ≡ true) where
         word = simp length-set (a .word);
         downs = simp length-set (a .downs);
         counter = r .counter;
-        queue = shorter-long (twice w) (omega arith) ∙ r .queue;
+        queue = dequeued-long (twice w) (omega arith) ∙ r .queue;
       })
 
   pub arrays-kept : Arrays (stepOf w .state)
@@ -165,3 +166,8 @@ past-the-end w h = go (inRange w) refl
     go : (b : Bool) → inRange w ≡ b → stepOf w ≡ refusedWith 7 w
     go true e = let s = range-says w e in absurd (omega arith)
     go false e = ap (stepBy w) (goes-faulty w e)
+
+-- a closed walk has no survey: every call on it gets 7
+pub closed-gets-7 : stepOf closedWalk ≡ refusedWith 7 closedWalk
+unfolding stepOf course inRange fresh
+closed-gets-7 = refl

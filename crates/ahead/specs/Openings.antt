@@ -1,7 +1,7 @@
 -- Which surveys and capacities are opened: those within the limits, and no other.
 use Prim.Native.Nat.{ℕ, _^_, _≤_}
 use native.Mathlib.Omega.{arith}
-use mathlib.Core.Path.{_≡_, refl, sym, ap, _∙_}
+use mathlib.Core.Path.{_≡_, refl, ap}
 use mathlib.Core.Logic.{_↔_}
 use mathlib.Core.Bool.{true}
 use mathlib.Core.List.{List}
@@ -12,7 +12,6 @@ use Rattle.gray.specs.Answers.{Answer, given, refused, refusing}
 use Rattle.gray.specs.Bools.{impossible, neither}
 use Rattle.gray.specs.Radices.{digits, size, allFrom}
 use Rattle.gray.specs.Refusals.{faultless, passed}
-use Rattle.gray.specs.Engines.{Handed}
 use Rattle.ahead.specs.declared.Walk.{Walk}
 use Rattle.ahead.specs.States.{wrongCapacity, openCheck, isGiven}
 use Rattle.ahead.specs.Calls.{fresh, openWith, openOf}

@@ -16,9 +16,9 @@ use Rattle.gray.specs.Directions.{digitInRange, digitsInRange}
 use Rattle.gray.specs.DigitRanges.{each-allBelow}
 use Rattle.gray.specs.Turns.{downsAt, length-downsAt, walk-in-range}
 use Rattle.ahead.specs.declared.Producer.{Producer}
-use Rattle.ahead.specs.States.{isGiven, survey, places, producing, stepLimit, inRange}
+use Rattle.ahead.specs.States.{isGiven, survey, places, producerInRange, stepLimit, inRange}
 use Rattle.ahead.specs.Calls.{filled}
-use Rattle.ahead.specs.InRange.{IsPlace, says-producing, says-range}
+use Rattle.ahead.specs.InRange.{IsPlace, says-producer, says-range}
 use Rattle.ahead.specs.Filled.{take-filled, getD-filled}
 use Rattle.ahead.specs.Counters.{mixedDigits, cleared, length-mixedDigits, mixed-below, length-cleared, cleared-below, ruler-most, allFrom-places, length-places}
 use Rattle.ahead.specs.Openings.{Openable, opens}
@@ -61,11 +61,11 @@ module _ (ms : List ℕ) (c : ℕ) (v : Openable ms c) (t k p : ℕ) (at : Posit
       let most = ruler-most ms (suc (t + i)) in
       record { from-one = omega arith; last = omega arith }
 
-  pub producer-ranged : producing ms c (producerAt ms t k p) ≡ true
+  pub producer-ranged : producerInRange ms c (producerAt ms t k p) ≡ true
   producer-ranged =
       let r = ruler-most ms (suc (t + k)) in
       let f = at .carries in
-      says-producing ms c (producerAt ms t k p)
+      says-producer ms c (producerAt ms t k p)
       (record {
         counts = count-below;
         at = record { from-one = omega arith; last = omega arith };
@@ -90,7 +90,7 @@ digits-filled ms two t =
 pub state-ranged : (ms : List ℕ) (c t : ℕ) (over : Bool) (q : Producer)
     → Openable ms c
     → t < size ms
-    → producing ms c q ≡ true
+    → producerInRange ms c q ≡ true
     → q .steps ≤ stepLimit t over
     → inRange (walkAt ms c t over q) ≡ true
 state-ranged ms c t over q v below ranged limit =

@@ -19,7 +19,7 @@ use Rattle.ahead.specs.declared.Producer.{Producer}
 use Rattle.ahead.specs.declared.Walk.{Walk}
 use Rattle.ahead.specs.States.{survey, places, inRange}
 use Rattle.ahead.specs.Work.{Work, runOut, kind, done, work}
-use Rattle.ahead.specs.Calls.{filled, once, twice, dry, removing, course, shorter, endOf, moveOf, stepOf}
+use Rattle.ahead.specs.Calls.{filled, once, twice, dry, removing, course, dequeued, endOf, moveOf, stepOf}
 use Rattle.ahead.specs.Runs.{eventsBy}
 use Rattle.ahead.specs.Kept.{goes-dry, goes-removing, removes-last, removes-digit}
 use Rattle.ahead.specs.Filled.{take-filled, getD-filled, set-filled, filled-drop}
@@ -104,9 +104,9 @@ round ms c v t k p at below low =
 oldest : (ms : List ℕ) (t k : ℕ) → getD (filled 32 0 (entries ms t (suc k))) 0 0 ≡ ruler ms (suc t)
 oldest ms t k = ap (λ (l : List ℕ). getD (filled 32 0 l) 0 0) (entries-first ms t k)
 
-shorter-is : (ms : List ℕ) (t k p : ℕ) → k < 32 → shorter (producerAt ms t (suc k) p) ≡ producerAt ms (suc t) k p
-unfolding shorter
-shorter-is ms t k p room =
+dequeued-is : (ms : List ℕ) (t k p : ℕ) → k < 32 → dequeued (producerAt ms t (suc k) p) ≡ producerAt ms (suc t) k p
+unfolding dequeued
+dequeued-is ms t k p room =
     let e : t + suc k ≡ suc t + k = omega arith in
     let l = length-entries ms (suc t) k in
     same-producer
@@ -169,12 +169,12 @@ module _ (ms : List ℕ) (c : ℕ) (v : Openable ms c) (t k p : ℕ) (at : Posit
     oldest-is : getD (twice (running ms c t k p) .queue) 0 0 ≡ ruler ms (suc t)
     oldest-is = ap (λ (q : Producer). getD (q .queue) 0 0) twice-is-one-more ∙ oldest ms t k′
 
-    left-is : shorter (twice (running ms c t k p)) ≡ producerAt ms (suc t) k′ (r .p₂)
+    left-is : dequeued (twice (running ms c t k p)) ≡ producerAt ms (suc t) k′ (r .p₂)
     left-is =
         let at₁ = work-position at (r .first) in
         let fits = work-position at₁ (r .second) .fits in
         let cap = v .capacity in
-        ap shorter twice-is-one-more ∙ shorter-is ms t k′ (r .p₂) (omega arith)
+        ap dequeued twice-is-one-more ∙ dequeued-is ms t k′ (r .p₂) (omega arith)
 
     -- it is a digit's: the change of the list
     pub move-call : suc t < size ms

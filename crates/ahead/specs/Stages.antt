@@ -1,15 +1,15 @@
 -- What private functions of the engine ask for and answer.
 use Prim.Native.Nat.{ℕ, _+_, _^_, _≤_, _<_}
 use mathlib.Core.Path.{_≡_}
-use mathlib.Core.Bool.{Bool, true}
+use mathlib.Core.Bool.{true}
 use mathlib.Core.List.{List}
-use lib.ListN.{length, getD, take}
+use lib.ListN.{length, take}
 use Rattle.gray.specs.Radices.{allFrom}
-use Rattle.gray.specs.Directions.{digitInRange, digitsInRange}
+use Rattle.gray.specs.Directions.{digitsInRange}
 use Rattle.ahead.specs.declared.Producer.{Producer}
 use Rattle.ahead.specs.declared.Progress.{Progress}
 use Rattle.ahead.specs.declared.Walk.{Walk}
-use Rattle.ahead.specs.States.{producing}
+use Rattle.ahead.specs.States.{producerInRange}
 
 -- a producer made of its arrays and its numbers
 abbrev pub assembled : List ℕ → List ℕ → Progress → Producer
@@ -27,13 +27,14 @@ pub record Radices (radices : List ℕ) (n : ℕ) : Type 0 where
   pub most : n ≤ 48
   pub two : allFrom 2 (take n radices) ≡ true
 
--- what a work step asks for
+-- what a work step asks for. That the place lies in 1 to n + 1 follows from the range; it is said again where the proof's search
+-- finds it
 pub record Workable (radices : List ℕ) (n c : ℕ) (counter queue : List ℕ) (at : Progress) : Type 0 where
   pub survey : Radices radices n
   pub long : length counter ≡ 49
   pub wide : length queue ≡ 32
   pub capacity : c ≤ 32
-  pub ranged : producing (take n radices) c (assembled counter queue at) ≡ true
+  pub ranged : producerInRange (take n radices) c (assembled counter queue at) ≡ true
   pub from-one : 1 ≤ at .place
   pub last : at .place ≤ n + 1
   pub small : at .steps + 1 < 2 ^ 64

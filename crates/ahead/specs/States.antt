@@ -49,8 +49,8 @@ abbrev pub entriesInRange : List ℕ → ℕ → List ℕ → Bool
 entriesInRange ms queued queue = allBelow queued (λ i. isPlace ms (getD queue i 0))
 
 -- what the range rule says of the part that work steps change
-unfoldable pub producing : List ℕ → ℕ → Producer → Bool
-producing ms c p =
+unfoldable pub producerInRange : List ℕ → ℕ → Producer → Bool
+producerInRange ms c p =
     counterInRange ms (p .counter)
     && isPlace ms (p .place)
     && entriesInRange ms (p .queued) (p .queue)
@@ -68,6 +68,6 @@ inRange w =
     leb (w .n) 48
     && isGiven (openCheck (survey w) (w .capacity))
     && digitsInRange (w .n) (w .radices) (w .word) (w .downs)
-    && producing (survey w) (w .capacity) (w .producer)
+    && producerInRange (survey w) (w .capacity) (w .producer)
     && ltb (w .moves) (size (survey w))
     && leb (w .producer .steps) (stepLimit (w .moves) (w .ended))

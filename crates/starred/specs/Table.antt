@@ -15,9 +15,9 @@ use Rattle.gray.specs.Calls.{sizeCall, rankCall}
 use Rattle.gray.specs.Directions.{allBelow}
 use Rattle.gray.specs.Engines.{Event, moved, ended, after}
 use Rattle.ahead.specs.declared.Walk.{Walk}
-use Rattle.ahead.specs.States.{setting, producing, inRange}
+use Rattle.ahead.specs.States.{setting, producerInRange, inRange}
 use Rattle.ahead.specs.Work.{Work, carry, append, idle, kind, done}
-use Rattle.ahead.specs.Calls.{fresh, closedWalk, openOf, twice, course, shorter, endOf, moveOf, stepOf}
+use Rattle.ahead.specs.Calls.{fresh, closedWalk, openOf, twice, course, dequeued, endOf, moveOf, stepOf}
 use Rattle.ahead.specs.Runs.{state, answer, events as eventsOf}
 use Rattle.starred.specs.Same.{Test, numbers, changes, events, units, lists, answers}
 
@@ -137,7 +137,7 @@ each (r ∷ rs) e zero h = r .test .shows (r .computed) (r .said) (and-eq-true-i
 each (r ∷ rs) e (suc i) h = each rs (and-eq-true-iff (r .test .same (r .computed) (r .said)) (passes rs) .0 e .1) i (omega arith)
 
 tested : passes table ≡ true
-unfolding passes table sizeCall rankCall size allFrom upward downward notches through list isWord rank difference ruler wholeParts allBelow after producing inRange kind done fresh openOf course shorter endOf moveOf stepOf eventsOf
+unfolding passes table sizeCall rankCall size allFrom upward downward notches through list isWord rank difference ruler wholeParts allBelow after producerInRange inRange kind done fresh openOf course dequeued endOf moveOf stepOf eventsOf
 tested = refl
 
 -- every row of the table holds

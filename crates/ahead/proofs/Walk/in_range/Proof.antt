@@ -11,16 +11,7 @@ use Rattle.gray.specs.Directions.{digitsInRange}
 use Rattle.ahead.specs.States.{survey}
 use Rattle.ahead.specs.Stages.{Radices}
 use Rattle.ahead.specs.InRange.{Arrays}
-use Rattle.ahead.proofs.Ranges.{
-  accepted-radices,
-  accepted-total,
-  right-capacity,
-  digits-over,
-  survey-refused,
-  capacity-tested,
-  not-open,
-  state-tested,
-}
+use Rattle.ahead.proofs.Ranges.{accepted-radices, accepted-total, right-capacity, digits-over, survey-refused, capacity-tested, not-open, state-tested}
 use Rattle.ahead.proofs.Walk.in_range.Statement.{statement}
 use Rattle.ahead.proofs.Walk.in_range.Tie as tie
 

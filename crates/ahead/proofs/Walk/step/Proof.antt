@@ -13,16 +13,7 @@ use Rattle.ahead.specs.Work.{work}
 use Rattle.ahead.specs.Calls.{once, twice}
 use Rattle.ahead.specs.Stages.{assembled}
 use Rattle.ahead.specs.InRange.{Ranged, range-says, Reached, reached-none}
-use Rattle.ahead.proofs.Steps.{
-  refused-faulty,
-  already-over,
-  reached-by,
-  workable,
-  movable,
-  refused-dry,
-  ends,
-  moves-digit,
-}
+use Rattle.ahead.proofs.Steps.{refused-faulty, already-over, reached-by, workable, movable, refused-dry, ends, moves-digit}
 use Rattle.ahead.proofs.Walk.step.Statement.{statement}
 use Rattle.ahead.proofs.Walk.step.Tie as tie
 
