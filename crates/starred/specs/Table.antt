@@ -120,7 +120,7 @@ table =
     ∷ row (answers numbers) (sizeCall (1 ∷ [])) (refused 3)
     ∷ row (answers numbers) (sizeCall (2 ∷ [])) (given 2)
     ∷ row (answers numbers) (sizeCall (255 ∷ [])) (given 255)
-    -- the same opened with c = 32; c = 33, and no place at all
+    -- 48 of 2 opened with c = 32, with c = 33, and with no place at all
     ∷ row (answers units) (openOf closedWalk (replicate 48 2) 32 .answer) (given tt)
     ∷ row (answers units) (openOf closedWalk (replicate 48 2) 33 .answer) (refused 5)
     ∷ row (answers units) (openOf closedWalk (replicate 48 2) 0 .answer) (refused 5)
