@@ -9,9 +9,10 @@ use lib.Dec.{eqb}
 use lib.ListN.{length, getD, set, take, drop}
 use lib.Seq.{length-take-le}
 use Rattle.gray.specs.Answers.{given}
-use Rattle.gray.specs.Directions.{movedFrom, turnedAt, digitInRange}
+use Rattle.gray.specs.Directions.{digitInRange, advancedFrom}
 use Rattle.gray.specs.Engines.{ended, refusedWith}
-use Rattle.gray.specs.DigitRanges.{allBelow-each}
+use Rattle.gray.specs.DigitRanges.{allBelow-each, digit-advanced}
+use Rattle.gray.specs.declared.Directed.{Directed}
 use Rattle.gray.specs.declared.Stepping.the-variants.{Moved}
 use Rattle.ahead.specs.declared.Producer.{Producer}
 use Rattle.ahead.specs.declared.Progress.{Progress}
@@ -22,7 +23,6 @@ use Rattle.ahead.specs.Calls.{steppedAs, twice, course, removing, dequeu
 use Rattle.ahead.specs.Stages.{assembled, Workable, Movable}
 use Rattle.ahead.specs.InRange.{place-two, producer-says, runs-out, carries-on, appends-one, stays-full, count-grows, Ranged, survey-openable, survey-long, Reached, reached-more}
 use Rattle.ahead.specs.Kept.{goes-faulty, goes-over, goes-dry, goes-removing, removes-last, removes-digit}
-use Rattle.ahead.proofs.Ranges.{radix-two}
 
 -- ---- work
 module _ (radices : List ℕ) (n c : ℕ) (counter queue : List ℕ) (at : Progress) (ok : Workable radices n c counter queue at) where
@@ -97,29 +97,26 @@ module _ (radices : List ℕ) (n c : ℕ) (counter queue : List ℕ) (at : Progr
               sym (ap (λ k. done k before) now)
 
 -- ---- advance
+-- the digit stands in range, so that the call moves it
 module _ (w : Walk) (k : ℕ) (ok : Movable w k) (place : ℕ) (wide : place ≡ k) where
-  pub digit-ranged : digitInRange (getD (w .radices) (place - 1) 0) (getD (w .word) (place - 1) 0) (getD (w .downs) (place - 1) false)
+  digit-ranged : digitInRange (getD (w .radices) (place - 1) 0) (getD (w .word) (place - 1) 0) (getD (w .downs) (place - 1) false)
       ≡ true
   digit-ranged =
       allBelow-each (w .n) (λ i. digitInRange (getD (w .radices) i 0) (getD (w .word) i 0) (getD (w .downs) i false)) (ok .notches)
       (place - 1)
       (omega arith)
 
-  pub digit-radix : 0 < getD (w .radices) (place - 1) 0
-  digit-radix = let two = radix-two (w .radices) (w .n) (ok .survey) (place - 1) (omega arith) in omega arith
-
-  pub digit-moved : (a : ℕ) (down : Bool) (p : Producer)
-      → a ≡ movedFrom (getD (w .word) (place - 1) 0) (getD (w .downs) (place - 1) false)
-      → down ≡ turnedAt (getD (w .radices) (place - 1) 0) a (getD (w .downs) (place - 1) false)
+  pub digit-moved : (to : Directed) (p : Producer)
+      → to ≡ advancedFrom (getD (w .radices) (place - 1) 0) (getD (w .word) (place - 1) 0) (getD (w .downs) (place - 1) false)
       → steppedAs
       (record {
         walk =
             record {
               radices = w .radices;
               n = w .n;
-              word = set (w .word) (place - 1) a;
+              word = set (w .word) (place - 1) (to .digit);
               capacity = w .capacity;
-              downs = set (w .downs) (place - 1) down;
+              downs = set (w .downs) (place - 1) (to .down);
               ended = false;
               producer = p;
               moves = w .moves + 1;
@@ -128,7 +125,11 @@ module _ (w : Walk) (k : ℕ) (ok : Movable w k) (place : ℕ) (wide : place ≡
       })
       ≡ moveOf w k p
   unfolding moveOf
-  digit-moved a down p e f = rw (f, e, wide)
+  digit-moved to p e =
+      let made =
+      e
+      ∙ digit-advanced (getD (w .radices) (place - 1) 0) (getD (w .word) (place - 1) 0) (getD (w .downs) (place - 1) false) digit-ranged in
+      rw (made, wide)
 
 -- ---- step
 -- a call whose state is out of range, or has ended

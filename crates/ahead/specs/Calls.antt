@@ -3,10 +3,11 @@ use Prim.Native.Nat.{ℕ, _+_, _-_}
 use mathlib.Core.Bool.{true, false, cond, not}
 use mathlib.Core.List.{List, [], _∷_, _++_}
 use lib.Dec.{eqb}
-use lib.ListN.{length, getD, drop, set, replicate}
+use lib.ListN.{length, getD, drop, replicate}
 use Rattle.gray.specs.Answers.{Answer, given, refused}
 use Rattle.gray.specs.Radices.{digits}
-use Rattle.gray.specs.Directions.{movedFrom, turnedAt}
+use Rattle.gray.specs.Arrays.{filled}
+use Rattle.gray.specs.Directions.{wordMoved, downsMoved}
 use Rattle.gray.specs.Engines.{Event, moved, ended, Handed, refusedWith, openingAs, steppingAs}
 use Rattle.ahead.specs.declared.Producer.{Producer}
 use Rattle.ahead.specs.declared.Walk.{Walk}
@@ -23,10 +24,6 @@ abbrev pub steppedAs : Stepped → Handed Walk Event
 steppedAs r = record { state = r .walk; answer = steppingAs (r .answer) }
 
 -- ---- opening
--- an array of k places: the list, and zeros or the like after it
-abbrev pub filled : {A : Type 0} → ℕ → A → List A → List A
-filled k z l = l ++ replicate (k - length l) z
-
 -- the fresh state of the n radices in an array: the setting all 0, directions all up, the counter all 0, place 1, an empty queue,
 -- no changes made, no useful steps, not ended
 abbrev pub freshWith : List ℕ → ℕ → ℕ → Walk
@@ -106,18 +103,15 @@ endOf w p = record {
 }
 
 -- digit k, at index k − 1, moves one notch in its direction, which turns if the digit is then at an end; j grows by 1
-abbrev pub notchAfter : Walk → ℕ → ℕ
-notchAfter w k = movedFrom (getD (w .word) (k - 1) 0) (getD (w .downs) (k - 1) false)
-
 unfoldable pub moveOf : Walk → ℕ → Producer → Handed Walk Event
 moveOf w k p = record {
   state =
       record {
         radices = w .radices;
         n = w .n;
-        word = set (w .word) (k - 1) (notchAfter w k);
+        word = wordMoved (w .word) (w .downs) (k - 1);
         capacity = w .capacity;
-        downs = set (w .downs) (k - 1) (turnedAt (getD (w .radices) (k - 1) 0) (notchAfter w k) (getD (w .downs) (k - 1) false));
+        downs = downsMoved (w .radices) (w .word) (w .downs) (k - 1);
         ended = false;
         producer = p;
         moves = w .moves + 1;

@@ -12,15 +12,14 @@ use lib.Dec.{eqb, ltb}
 use lib.ListN.{length, getD, set, length-append}
 use Rattle.gray.specs.Radices.{size}
 use Rattle.gray.specs.Changes.{ruler}
-use Rattle.gray.specs.Members.{wordAt}
-use Rattle.gray.specs.Turns.{downsAt}
+use Rattle.gray.specs.Arrays.{filled}
+use Rattle.gray.specs.WalkArrays.{wordArray, downArray}
+use Rattle.gray.specs.Filled.{getD-filled, set-filled, filled-append}
 use Rattle.ahead.specs.declared.Producer.{Producer}
 use Rattle.ahead.specs.declared.Walk.{Walk}
 use Rattle.ahead.specs.States.{places}
 use Rattle.ahead.specs.Work.{Work, carry, append, idle, countAt, radixAt, runOut, kind, done}
-use Rattle.ahead.specs.Calls.{filled}
 use Rattle.ahead.specs.InRange.{last-is-two, carries-on as kind-carry, appends-one as kind-append, stays-full as kind-idle}
-use Rattle.ahead.specs.Filled.{getD-filled, set-filled, filled-append}
 use Rattle.ahead.specs.Counters.{mixedDigits, cleared, length-mixedDigits, length-cleared, cleared-at, carry-test, carry-clears, append-counts, ruler-most, ruler-places, allFrom-places, length-places}
 use Rattle.ahead.specs.Openings.{Openable}
 use Rattle.ahead.specs.Positions.{Position, Worked, Worked.carried, Worked.appended, Worked.idled, stepsAt, one, gained, work-steps}
@@ -59,9 +58,9 @@ abbrev pub walkAt : List ℕ → ℕ → ℕ → Bool → Producer → Walk
 walkAt ms c t over q = record {
   radices = filled 48 0 ms;
   n = length ms;
-  word = filled 48 0 (wordAt ms t);
+  word = wordArray ms t;
   capacity = c;
-  downs = filled 48 false (downsAt ms t);
+  downs = downArray ms t;
   ended = over;
   producer = q;
   moves = t;

@@ -10,15 +10,15 @@ use borrow.Author.Tests.{lt-ltb, ltb-true, le-leb, leb-true, eq-eqb, eqb-true, e
 use lib.Dec.{eqb, ltb, leb}
 use lib.ListN.{length, getD, drop, set, length-append, length-drop, length-set, List·getD-append, List·getD-eq-default}
 use lib.Seq.{length-take-le, getD-drop, getD-set-same, getD-set-other, getD-append-seam}
+use Rattle.gray.specs.Answers.{isGiven}
 use Rattle.gray.specs.Bools.{impossible}
-use Rattle.gray.specs.Digits.{radix-from}
 use Rattle.gray.specs.Directions.{digitsInRange}
 use Rattle.gray.specs.Radices.{allFrom, size}
-use Rattle.gray.specs.Reversals.{allFrom-reverse}
+use Rattle.gray.specs.Sizes.{radix-two}
 use Rattle.gray.specs.DigitRanges.{allBelow-each, each-allBelow}
 use Rattle.ahead.specs.declared.Producer.{Producer}
 use Rattle.ahead.specs.declared.Walk.{Walk}
-use Rattle.ahead.specs.States.{survey, openCheck, isGiven, places, isPlace, counterInRange, entriesInRange, producerInRange, stepLimit, inRange}
+use Rattle.ahead.specs.States.{survey, openCheck, places, isPlace, counterInRange, entriesInRange, producerInRange, stepLimit, inRange}
 use Rattle.ahead.specs.Work.{Work, carry, append, idle, countAt, radixAt, runOut, kind, done, work}
 use Rattle.ahead.specs.Counters.{allFrom-places, length-places}
 use Rattle.ahead.specs.Openings.{Openable, openable}
@@ -33,9 +33,6 @@ pub record Arrays (w : Walk) : Type 0 where
   pub queue : length (w .producer .queue) ≡ 32
 
 -- ---- the radices
-pub radix-two : (ms : List ℕ) (i : ℕ) → allFrom 2 ms ≡ true → i < length ms → 2 ≤ getD ms i 0
-radix-two ms i two h = radix-from 2 ms i h (allFrom-reverse 2 ms ∙ two)
-
 -- the radix of every place is at least 2, and that of the last is 2
 pub place-two : (ms : List ℕ) (i : ℕ) → allFrom 2 ms ≡ true → i ≤ length ms → 2 ≤ getD (places ms) i 0
 place-two ms i two h =

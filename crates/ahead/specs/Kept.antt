@@ -11,10 +11,11 @@ use lib.Seq.{getD-take}
 use Rattle.gray.specs.Engines.{refusedWith}
 use Rattle.gray.specs.Radices.{size}
 use Rattle.gray.specs.DigitRanges.{digits-move-in-range}
+use Rattle.gray.specs.Sizes.{radix-two}
 use Rattle.ahead.specs.declared.Walk.{Walk}
 use Rattle.ahead.specs.States.{survey, producerInRange, stepLimit, inRange}
 use Rattle.ahead.specs.Calls.{fresh, closedWalk, twice, faulty, over, dry, removing, course, dequeued, endOf, moveOf, stepBy, stepOf}
-use Rattle.ahead.specs.InRange.{Arrays, producer-says, radix-two, dequeued-long, dequeued-in-range, range-says, says-range, survey-openable, survey-long, reached-twice}
+use Rattle.ahead.specs.InRange.{Arrays, producer-says, dequeued-long, dequeued-in-range, range-says, says-range, survey-openable, survey-long, reached-twice}
 
 -- ---- calls
 -- the tests of a call, in their order

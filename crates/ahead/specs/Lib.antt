@@ -21,7 +21,6 @@ pub mod Clauses
 -- laws
 pub mod Entries
 pub mod Counters
-pub mod Filled
 pub mod InRange
 -- what private functions ask for and answer
 pub mod Stages

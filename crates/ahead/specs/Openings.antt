@@ -12,8 +12,9 @@ use Rattle.gray.specs.Answers.{Answer, given, refused, refusing}
 use Rattle.gray.specs.Bools.{impossible, neither}
 use Rattle.gray.specs.Radices.{digits, size, allFrom}
 use Rattle.gray.specs.Refusals.{faultless, passed}
+use Rattle.gray.specs.Answers.{isGiven}
 use Rattle.ahead.specs.declared.Walk.{Walk}
-use Rattle.ahead.specs.States.{wrongCapacity, openCheck, isGiven}
+use Rattle.ahead.specs.States.{wrongCapacity, openCheck}
 use Rattle.ahead.specs.Calls.{fresh, openWith, openOf}
 
 -- document 01, "Limits"

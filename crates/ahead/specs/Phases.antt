@@ -6,24 +6,24 @@ use mathlib.Core.Path.{_≡_, refl, sym, ap, ap₂, _∙_, subst}
 use mathlib.Core.Bool.{Bool, true, false}
 use mathlib.Core.List.{List, [], _∷_, _++_, append-nil}
 use lib.ListN.{length, replicate}
-use lib.Seq.{take-at}
 use Rattle.gray.specs.Answers.{given, refused}
 use Rattle.gray.specs.Radices.{size}
 use Rattle.gray.specs.Costs.{cost}
 use Rattle.gray.specs.Words.{member}
 use Rattle.gray.specs.Rulers.{ruler-pos}
-use Rattle.gray.specs.Members.{wordAt, length-wordAt, member-is-wordAt}
-use Rattle.gray.specs.Turns.{wordAt-start, downsAt-start}
+use Rattle.gray.specs.Members.{member-is-wordAt}
+use Rattle.gray.specs.WalkArrays.{take-word-array, word-array-start, down-array-start}
 use Rattle.gray.specs.Engines.{Event, ended, Handed, refusedWith, after}
+use Rattle.gray.specs.Arrays.{filled}
+use Rattle.gray.specs.Filled.{filled-replicate}
 use Rattle.ahead.specs.declared.Producer.{Producer}
 use Rattle.ahead.specs.declared.Walk.{Walk}
 use Rattle.ahead.specs.States.{places, setting, inRange}
 use Rattle.ahead.specs.Work.{Work}
-use Rattle.ahead.specs.Calls.{filled, fresh, Course, removing, course, stepBy, stepOf}
+use Rattle.ahead.specs.Calls.{fresh, Course, removing, course, stepBy, stepOf}
 use Rattle.ahead.specs.Runs.{state, answer, eventsBy, events}
 use Rattle.ahead.specs.Demand.{NamesChange}
 use Rattle.ahead.specs.Kept.{goes-over}
-use Rattle.ahead.specs.Filled.{filled-replicate}
 use Rattle.ahead.specs.Counters.{mixedDigits, mixed-start, length-places}
 use Rattle.ahead.specs.Entries.{cost-zero}
 use Rattle.ahead.specs.Openings.{Openable}
@@ -92,17 +92,15 @@ unfolding fresh entries
 fresh-is ms c v =
     let m = v .most in
     let l = length-places ms in
-    let word : replicate 48 0 ≡ filled 48 0 (wordAt ms 0) = sym (ap (filled 48 0) (wordAt-start ms) ∙ filled-replicate 48 0 (length ms) m) in
-    let downs = sym (ap (filled 48 false) (downsAt-start ms (v .two)) ∙ filled-replicate 48 false (length ms) m) in
     let counter : replicate 49 0 ≡ filled 49 0 (mixedDigits (places ms) 0) =
     sym (ap (filled 49 0) (mixed-start (places ms)) ∙ filled-replicate 49 0 (length (places ms)) (omega arith)) in
     let z = cost-zero ms in
-    same-walk word downs (same-producer counter refl refl refl (omega arith)) refl
+    same-walk (word-array-start ms m) (down-array-start ms (v .two) m) (same-producer counter refl refl refl (omega arith)) refl
 
 -- the setting that a state of the run holds
 pub setting-is : (ms : List ℕ) (c t : ℕ) (over : Bool) (q : Producer) → t < size ms → setting (walkAt ms c t over q) ≡ member ms t
 setting-is ms c t over q below =
-    take-at (wordAt ms t) (replicate (48 - length (wordAt ms t)) 0) (length ms) (length-wordAt ms t) ∙ sym (member-is-wordAt ms t below)
+    take-word-array ms t ∙ sym (member-is-wordAt ms t below)
 
 pub fresh-setting : (ms : List ℕ) (c : ℕ) → Openable ms c → 0 < size ms → setting (fresh ms c) ≡ member ms 0
 fresh-setting ms c v below = ap setting (fresh-is ms c v) ∙ setting-is ms c 0 false (producerAt ms 0 0 0) below

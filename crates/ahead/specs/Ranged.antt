@@ -1,25 +1,23 @@
 -- Every state of a run is in range.
-use Prim.Native.Nat.{ℕ, zero, suc, _+_, _-_, _≤_, _<_}
+use Prim.Native.Nat.{ℕ, zero, suc, _+_, _≤_, _<_}
 use native.Mathlib.Decide.{decLt}
 use native.Mathlib.Nat.{lt-of-le-of-lt}
 use native.Mathlib.Omega.{arith}
 use mathlib.Core.Path.{_≡_, ap, _∙_}
-use mathlib.Core.Bool.{Bool, true, false}
+use mathlib.Core.Bool.{Bool, true}
 use mathlib.Core.List.{List, [], _∷_}
 use lib.ListN.{length, getD, List·getD-append}
 use lib.Seq.{getD-at}
-use Rattle.gray.specs.Radices.{size, allFrom}
+use Rattle.gray.specs.Radices.{size}
 use Rattle.gray.specs.Changes.{ruler}
 use Rattle.gray.specs.Rulers.{ruler-pos}
-use Rattle.gray.specs.Members.{wordAt, length-wordAt}
-use Rattle.gray.specs.Directions.{digitInRange, digitsInRange}
-use Rattle.gray.specs.DigitRanges.{each-allBelow}
-use Rattle.gray.specs.Turns.{downsAt, length-downsAt, walk-in-range}
+use Rattle.gray.specs.Answers.{isGiven}
+use Rattle.gray.specs.Arrays.{filled}
+use Rattle.gray.specs.WalkArrays.{arrays-in-range}
+use Rattle.gray.specs.Filled.{take-filled, getD-filled}
 use Rattle.ahead.specs.declared.Producer.{Producer}
-use Rattle.ahead.specs.States.{isGiven, survey, places, producerInRange, stepLimit, inRange}
-use Rattle.ahead.specs.Calls.{filled}
+use Rattle.ahead.specs.States.{survey, places, producerInRange, stepLimit, inRange}
 use Rattle.ahead.specs.InRange.{IsPlace, says-producer, says-range}
-use Rattle.ahead.specs.Filled.{take-filled, getD-filled}
 use Rattle.ahead.specs.Counters.{mixedDigits, cleared, length-mixedDigits, mixed-below, length-cleared, cleared-below, ruler-most, allFrom-places, length-places}
 use Rattle.ahead.specs.Openings.{Openable, opens}
 use Rattle.ahead.specs.Positions.{Position, one}
@@ -74,18 +72,6 @@ module _ (ms : List ℕ) (c : ℕ) (v : Openable ms c) (t k p : ℕ) (at : Posit
       })
 
 -- ---- the whole state
-digits-filled : (ms : List ℕ) → allFrom 2 ms ≡ true → (t : ℕ)
-    → digitsInRange (length ms) (filled 48 0 ms) (filled 48 0 (wordAt ms t)) (filled 48 false (downsAt ms t)) ≡ true
-digits-filled ms two t =
-    each-allBelow (length ms)
-    (λ i. digitInRange (getD (filled 48 0 ms) i 0) (getD (filled 48 0 (wordAt ms t)) i 0) (getD (filled 48 false (downsAt ms t)) i false))
-    (λ i h.
-    let a = length-wordAt ms t in
-    let b = length-downsAt ms t in
-    rw
-    (getD-filled 48 0 ms i 0 h, getD-filled 48 0 (wordAt ms t) i 0 (omega arith), getD-filled 48 false (downsAt ms t) i false (omega arith))
-    (walk-in-range ms two t i h))
-
 -- a state of the run, running or ended, is in range
 pub state-ranged : (ms : List ℕ) (c t : ℕ) (over : Bool) (q : Producer)
     → Openable ms c
@@ -99,7 +85,7 @@ state-ranged ms c t over q v below ranged limit =
     (record {
       most = v .most;
       opens = rw survey-is (ap isGiven (opens v));
-      notches = digits-filled ms (v .two) t;
+      notches = arrays-in-range ms (v .two) t;
       ahead = rw survey-is ranged;
       rank = rw survey-is below;
       steps = limit;

@@ -3,26 +3,26 @@ use Prim.Native.Nat.{ℕ, suc, _+_, _-_, _*_, _≤_, _<_}
 use native.Mathlib.Numerals.{add-one}
 use native.Mathlib.Omega.{arith}
 use mathlib.Core.Path.{_≡_, refl, sym, ap, ap₂, _∙_}
-use mathlib.Core.Bool.{Bool, true, false}
+use mathlib.Core.Bool.{true, false}
 use mathlib.Core.List.{List, [], _∷_, _++_}
 use lib.ListN.{length, getD, drop}
 use Rattle.gray.specs.Answers.{given}
 use Rattle.gray.specs.Radices.{size}
-use Rattle.gray.specs.Changes.{change, ruler}
+use Rattle.gray.specs.Changes.{Change, change, ruler}
 use Rattle.gray.specs.Costs.{cost}
-use Rattle.gray.specs.Members.{wordAt, length-wordAt}
-use Rattle.gray.specs.Rulers.{change-is-ruler, ruler-at-end}
-use Rattle.gray.specs.Directions.{movedFrom, turnedAt}
-use Rattle.gray.specs.Turns.{downsAt, length-downsAt, Advances, walk-advances}
+use Rattle.gray.specs.Rulers.{ruler-at-end}
+use Rattle.gray.specs.Turns.{Advances, walk-advances}
 use Rattle.gray.specs.Engines.{moved, ended}
+use Rattle.gray.specs.Arrays.{filled}
+use Rattle.gray.specs.WalkArrays.{word-array-moved, down-array-moved, change-named}
+use Rattle.gray.specs.Filled.{take-filled, filled-drop}
 use Rattle.ahead.specs.declared.Producer.{Producer}
 use Rattle.ahead.specs.declared.Walk.{Walk}
 use Rattle.ahead.specs.States.{survey, places, inRange}
 use Rattle.ahead.specs.Work.{Work, runOut, kind, done, work}
-use Rattle.ahead.specs.Calls.{filled, once, twice, dry, removing, course, dequeued, endOf, moveOf, stepOf}
+use Rattle.ahead.specs.Calls.{once, twice, dry, removing, course, dequeued, endOf, moveOf, stepOf}
 use Rattle.ahead.specs.Runs.{eventsBy}
 use Rattle.ahead.specs.Kept.{goes-dry, goes-removing, removes-last, removes-digit}
-use Rattle.ahead.specs.Filled.{take-filled, getD-filled, set-filled, filled-drop}
 use Rattle.ahead.specs.Counters.{mixedDigits, cleared}
 use Rattle.ahead.specs.Openings.{Openable}
 use Rattle.ahead.specs.Positions.{Position, Worked, stepsAt, one, work-position, work-steps, gain-small, counter-lasts}
@@ -126,23 +126,10 @@ move-is : (ms : List ℕ) (c t i : ℕ) (q left : Producer)
 unfolding moveOf
 move-is ms c t i q left a below =
     let index : suc i - 1 ≡ i = omega arith in
-    let w = length-wordAt ms t in
-    let d = length-downsAt ms t in
-    let inside = a .within in
-    let named : change ms (suc t) ≡ record { digit = suc i; down = getD (downsAt ms t) i false } =
-    change-is-ruler ms t below .0 ∙ ap₂ (λ (k : ℕ) (b : Bool). record { digit = k; down = b }) (a .digit) (sym (a .direction)) in
-    let notch = getD-filled 48 0 (wordAt ms t) i 0 (omega arith) in
-    let turn = getD-filled 48 false (downsAt ms t) i false (omega arith) in
-    let radix = getD-filled 48 0 ms i 0 inside in
-    let to : ℕ = movedFrom (getD (wordAt ms t) i 0) (getD (downsAt ms t) i false) in
-    let down : Bool = turnedAt (getD ms i 0) to (getD (downsAt ms t) i false) in
-    rw (index, notch, turn, radix, named)
-    (ap (λ (u : Walk). record { state = u; answer = given (moved (record { digit = suc i; down = getD (downsAt ms t) i false })) })
-    (same-walk
-    (set-filled 48 0 (wordAt ms t) i to (omega arith) ∙ ap (filled 48 0) (a .word))
-    (set-filled 48 false (downsAt ms t) i down (omega arith) ∙ ap (filled 48 false) (a .downs))
-    refl
-    (add-one t)))
+    rw index
+    (ap₂ (λ (u : Walk) (n : Change). record { state = u; answer = given (moved n) })
+    (same-walk (word-array-moved ms t i a) (down-array-moved ms t i a) refl (add-one t))
+    (sym (change-named ms t i a below)))
 
 -- ---- one call
 -- a call on a running state goes as its queue has it after the two work steps

@@ -1,7 +1,7 @@
 -- What a call answers in the papers' terms, and what a writer leaves in the memory that it is lent.
 use Prim.Native.Nat.{ℕ}
 use mathlib.Core.Path.{_≡_}
-use mathlib.Core.Bool.{Bool, cond}
+use mathlib.Core.Bool.{Bool, true, false, cond}
 use mathlib.Core.List.{List, _++_}
 use lib.Dec.{ltb}
 use lib.ListN.{length, drop}
@@ -20,6 +20,11 @@ refusing k fault rest = cond fault (refused k) rest
 abbrev pub numberOf : {A : Type 0} → Answer A → ℕ
 numberOf (given a) = 0
 numberOf (refused k) = k
+
+-- whether a value is given
+abbrev pub isGiven : {A : Type 0} → Answer A → Bool
+isGiven (given a) = true
+isGiven (refused k) = false
 
 -- refusal 9, the last check of every writer: the lent output is shorter than the bytes to be written
 abbrev pub fitting : ℕ → List ℕ → Answer (List ℕ)

@@ -1,15 +1,17 @@
 -- Laws of tests over all numbers below n, and of a digit that stands in range and moves.
 use Prim.Native.Nat.{ℕ, zero, suc, _+_, _-_, _≤_, _<_}
 use native.Mathlib.Decide.{decLt, ℕ-discrete}
+use native.Mathlib.Numerals.{add-one}
 use native.Mathlib.Omega.{arith}
-use mathlib.Core.Path.{_≡_, refl, ap₂}
-use mathlib.Core.Bool.{Bool, true, false, _&&_, not, and-eq-true-iff, and-false}
+use mathlib.Core.Path.{_≡_, refl, ap, ap₂, _∙_}
+use mathlib.Core.Bool.{Bool, true, false, cond, _&&_, not, and-eq-true-iff, and-false}
 use mathlib.Core.List.{List}
 use borrow.Author.Tests.{lt-ltb, ltb-true, eq-eqb, ne-eqb, not-true, not-false}
 use lib.Dec.{eqb, ltb}
-use lib.ListN.{length, getD, set}
-use lib.Seq.{getD-set-same, getD-set-other}
-use Rattle.gray.specs.Directions.{movedFrom, turnedAt, allBelow, digitInRange, digitsInRange}
+use lib.ListN.{length, getD, set, take}
+use lib.Seq.{getD-set-same, getD-set-other, getD-take, length-take-le}
+use Rattle.gray.specs.declared.Directed.{Directed}
+use Rattle.gray.specs.Directions.{movedFrom, turnedAt, wordMoved, downsMoved, allBelow, digitInRange, digitsInRange, wordInRange, advancedFrom}
 use Rattle.gray.specs.Bools.{impossible}
 
 -- ---- a test over all numbers below n
@@ -33,6 +35,21 @@ pub allBelow-same : (n : ℕ) (f g : ℕ → Bool) → ((i : ℕ) → i < n → 
 unfolding allBelow
 allBelow-same zero f g same = refl
 allBelow-same (suc n) f g same = ap₂ _&&_ (allBelow-same n f g (λ i h. same i (omega arith))) (same n (omega arith))
+
+-- a test gathered over all numbers below n, one after another
+pub tested-none : (test : ℕ → Bool) → true ≡ allBelow 0 test
+unfolding allBelow
+tested-none test = refl
+
+pub tested-more : (test : ℕ → Bool) (ok next : Bool) (i : ℕ)
+    → ok ≡ allBelow i test
+    → next ≡ test i
+    → ok && next ≡ allBelow (i + 1) test
+unfolding allBelow
+tested-more test ok next i e f = rw (add-one i) (ap₂ _&&_ e f)
+
+pub tested-all : (test : ℕ → Bool) (ok : Bool) (i n : ℕ) → i ≤ n → n ≤ i → ok ≡ allBelow i test → ok ≡ allBelow n test
+tested-all test ok i n h k e = let same : i ≡ n = omega arith in e ∙ ap (λ (j : ℕ). allBelow j test) same
 
 -- ---- one digit
 -- what it says that notch a and its direction are in range
@@ -92,6 +109,21 @@ digit-moves-in-range m a false two e =
     says-digit m (a + 1) (turnedAt m (a + 1) false)
     (turned-in-range m (a + 1) false (omega arith) (λ z. absurd (omega arith)) (λ t. refl) (λ z t. omega arith))
 
+-- the call that moves a digit: one in range goes on, any other stays
+module _ (m a : ℕ) (down : Bool) where
+  abbrev advanced-if : Bool → Directed
+  advanced-if b =
+      cond b (record { digit = movedFrom a down; down = turnedAt m (movedFrom a down) down }) (record { digit = a; down = down })
+
+  pub digit-advanced : digitInRange m a down ≡ true
+      → advancedFrom m a down ≡ record { digit = movedFrom a down; down = turnedAt m (movedFrom a down) down }
+  unfolding advancedFrom
+  digit-advanced e = ap advanced-if e
+
+  pub digit-stays : digitInRange m a down ≡ false → advancedFrom m a down ≡ record { digit = a; down = down }
+  unfolding advancedFrom
+  digit-stays e = ap advanced-if e
+
 -- ---- all digits
 -- one digit's notch and direction are replaced by others in range: all digits stand in range
 pub digits-set-in-range : (n : ℕ) (radices word : List ℕ) (downs : List Bool) (i a : ℕ) (down : Bool)
@@ -117,9 +149,7 @@ pub digits-move-in-range : (n : ℕ) (radices word : List ℕ) (downs : List Boo
     → n ≤ length downs
     → 2 ≤ getD radices i 0
     → digitsInRange n radices word downs ≡ true
-    → digitsInRange n radices (set word i (movedFrom (getD word i 0) (getD downs i false)))
-    (set downs i (turnedAt (getD radices i 0) (movedFrom (getD word i 0) (getD downs i false)) (getD downs i false)))
-    ≡ true
+    → digitsInRange n radices (wordMoved word downs i) (downsMoved radices word downs i) ≡ true
 digits-move-in-range n radices word downs i h lw ld two e =
     let here = allBelow-each n (λ k. digitInRange (getD radices k 0) (getD word k 0) (getD downs k false)) e i h in
     digits-set-in-range n radices word downs i (movedFrom (getD word i 0) (getD downs i false))
@@ -128,3 +158,22 @@ digits-move-in-range n radices word downs i h lw ld two e =
     ld
     (digit-moves-in-range (getD radices i 0) (getD word i 0) (getD downs i false) two here)
     e
+
+-- only the digits themselves count
+pub digits-in-range-take : (n : ℕ) (radices word : List ℕ) (downs : List Bool)
+    → digitsInRange n (take n radices) (take n word) (take n downs) ≡ digitsInRange n radices word downs
+digits-in-range-take n radices word downs =
+    allBelow-same n (λ i. digitInRange (getD (take n radices) i 0) (getD (take n word) i 0) (getD (take n downs) i false))
+    (λ i. digitInRange (getD radices i 0) (getD word i 0) (getD downs i false))
+    (λ i h. rw (getD-take n radices i 0 h, getD-take n word i 0 h, getD-take n downs i false h))
+
+-- the test of a word, on the first n places of longer lists
+pub digits-tested : (n : ℕ) (radices word : List ℕ) (downs : List Bool)
+    → n ≤ length radices
+    → n ≤ length word
+    → n ≤ length downs
+    → wordInRange (take n radices) (take n word) (take n downs) ≡ digitsInRange n radices word downs
+unfolding wordInRange
+digits-tested n radices word downs r w d =
+    rw (length-take-le n radices r, length-take-le n word w, length-take-le n downs d, eq-eqb n n refl)
+    (digits-in-range-take n radices word downs)

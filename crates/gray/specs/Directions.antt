@@ -4,7 +4,8 @@ use Prim.Native.Nat.{ℕ, zero, suc, _+_, _-_}
 use mathlib.Core.Bool.{Bool, true, false, cond, _&&_, _||_, not}
 use mathlib.Core.List.{List}
 use lib.Dec.{eqb, ltb}
-use lib.ListN.{getD}
+use lib.ListN.{length, getD, set}
+use Rattle.gray.specs.declared.Directed.{Directed}
 
 -- the notch that a digit at notch a moves to
 abbrev pub movedFrom : ℕ → Bool → ℕ
@@ -13,6 +14,14 @@ movedFrom a down = cond down (a - 1) (a + 1)
 -- its direction then: turned if the notch that it has come to is 0 or m − 1
 abbrev pub turnedAt : ℕ → ℕ → Bool → Bool
 turnedAt m a down = cond (eqb a 0 || eqb a (m - 1)) (not down) down
+
+-- the word and the directions of all digits once the digit at index i has moved
+abbrev pub wordMoved : List ℕ → List Bool → ℕ → List ℕ
+wordMoved word downs i = set word i (movedFrom (getD word i 0) (getD downs i false))
+
+abbrev pub downsMoved : List ℕ → List ℕ → List Bool → ℕ → List Bool
+downsMoved radices word downs i =
+    set downs i (turnedAt (getD radices i 0) (movedFrom (getD word i 0) (getD downs i false)) (getD downs i false))
 
 -- the test holds of every number below n
 unfoldable pub allBelow : ℕ → (ℕ → Bool) → Bool
@@ -26,3 +35,17 @@ digitInRange m a down = ltb a m && not (eqb a 0 && down) && not (eqb a (m - 1) &
 -- the range rule for the setting and the directions of n digits
 abbrev pub digitsInRange : ℕ → List ℕ → List ℕ → List Bool → Bool
 digitsInRange n radices word downs = allBelow n (λ i. digitInRange (getD radices i 0) (getD word i 0) (getD downs i false))
+
+-- the same for lists that may be of any length: there is a notch and a direction for each radix, and each stands in range
+unfoldable pub wordInRange : List ℕ → List ℕ → List Bool → Bool
+wordInRange radices word downs =
+    eqb (length word) (length radices)
+    && eqb (length downs) (length radices)
+    && digitsInRange (length radices) radices word downs
+
+-- a digit in range moves, and turns where it must; one that is not stays as it came
+unfoldable pub advancedFrom : ℕ → ℕ → Bool → Directed
+advancedFrom m a down =
+    cond (digitInRange m a down)
+    (record { digit = movedFrom a down; down = turnedAt m (movedFrom a down) down })
+    (record { digit = a; down = down })

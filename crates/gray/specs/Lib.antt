@@ -10,6 +10,7 @@ pub mod Costs
 pub mod MoveBytes
 pub mod Calls
 pub mod Directions
+pub mod Arrays
 pub mod Engines
 -- theorems
 pub mod Members
@@ -25,8 +26,10 @@ pub mod Bools
 pub mod Sizes
 pub mod Increments
 pub mod Digits
+pub mod Reversals
 pub mod Refusals
 pub mod DigitRanges
-pub mod Reversals
+pub mod Filled
+pub mod WalkArrays
 -- what private functions answer
 pub mod Stages

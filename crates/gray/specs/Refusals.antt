@@ -3,17 +3,18 @@
 use Prim.Native.Nat.{ℕ, _^_, _≤_, _<_}
 use native.Mathlib.Omega.{arith}
 use mathlib.Core.Path.{_≡_, refl, sym, ap, _∙_}
-use mathlib.Core.Bool.{Bool, true, false}
+use mathlib.Core.Bool.{Bool, true, false, not}
 use mathlib.Core.List.{List, _++_}
 use borrow.Author.Tests.{eqb-false, ltb-false, not-false}
 use lib.Dec.{eqb, ltb}
 use lib.ListN.{length, drop, length-reverse}
-use Rattle.gray.specs.Answers.{Answer, given, refused, refusing, numberOf, byteCount, outputAfter, Wrote}
+use Rattle.gray.specs.Answers.{Answer, given, refused, refusing, numberOf, isGiven, byteCount, outputAfter, Wrote}
 use Rattle.gray.specs.Radices.{digits, size, allFrom, wrongCount, wrongRadix, tooMany, ofRadices}
 use Rattle.gray.specs.Calls.{countedAs, sizeCall}
 use Rattle.gray.specs.declared.Counted.{Counted}
 use Rattle.gray.specs.declared.Counted.the-variants.{Refused}
 use Rattle.gray.specs.Bools.{impossible, neither}
+use Rattle.gray.specs.Reversals.{allFrom-reverse, size-reverse, ofRadices-reverse}
 use Rattle.gray.specs.Faults.{Fault, Fault.count, Fault.radix, Fault.many, Fault.none, fault, decided, lowest-fault-is-given}
 
 -- ---- radices that are refused, and radices that are accepted
@@ -110,6 +111,27 @@ pub passed-on : {A : Type 0} (l : List ℕ) (rest : Answer A) (o : Counted) (x n
 passed-on l rest o x number e f g =
     let same : number ≡ x = g ∙ ap (λ c. numberOf (countedAs c)) f in
     ap refused same ∙ sym (radices-refused l x rest (sym e ∙ ap countedAs f))
+
+-- ---- a survey that an engine's state holds: radices with digit 1 first, which the engine tests by the same call
+module _ (ms : List ℕ) where
+  pub survey-refused : {A : Type 0} (rest : Answer A) (k : ℕ) → sizeCall ms ≡ refused k → isGiven (ofRadices ms rest) ≡ false
+  survey-refused rest k e = ap isGiven (sym (ofRadices-reverse ms rest) ∙ radices-refused ms k rest e)
+
+  pub survey-accepted : {A : Type 0} (rest : Answer A) (n : ℕ) → sizeCall ms ≡ given n → ofRadices ms rest ≡ rest
+  survey-accepted rest n e = sym (ofRadices-reverse ms rest) ∙ radices-accepted ms n rest e
+
+  pub survey-two : (n : ℕ) → sizeCall ms ≡ given n → allFrom 2 ms ≡ true
+  survey-two n e = sym (allFrom-reverse 2 ms) ∙ accepted ms n e .two
+
+  pub survey-size : (n : ℕ) → sizeCall ms ≡ given n → (n ≡ size ms) × (n ≤ 2 ^ 62)
+  survey-size n e =
+      let a = accepted ms n e in
+      (a .whole ∙ size-reverse ms, omega arith)
+
+-- the last check: a value is given unless its fault is there
+pub given-unless : {A : Type 0} (k : ℕ) (wrong : Bool) (a : A) → isGiven (refusing k wrong (given a)) ≡ not wrong
+given-unless k true a = refl
+given-unless k false a = refl
 
 -- ---- a writer
 -- what a writer that refuses owes, and one that has put its bytes at the start

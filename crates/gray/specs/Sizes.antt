@@ -7,7 +7,7 @@ use mathlib.Core.Bool.{true, _&&_, and-eq-true-iff, and-assoc}
 use mathlib.Core.List.{List, [], _∷_, _++_}
 use borrow.Author.Tests.{leb-true, le-leb}
 use lib.Dec.{leb}
-use lib.ListN.{take}
+use lib.ListN.{length, getD, take}
 use Rattle.gray.specs.Radices.{size, allFrom}
 
 -- ---- radices that are large enough
@@ -31,6 +31,12 @@ allFrom-take k (suc i) [] e = refl
 allFrom-take k (suc i) (m ∷ ms) e =
     let (first, others) = and-eq-true-iff (leb k m) (allFrom k ms) .0 e in
     rw first (allFrom-take k i ms others)
+
+pub radix-two : (ms : List ℕ) (i : ℕ) → allFrom 2 ms ≡ true → i < length ms → 2 ≤ getD ms i 0
+unfolding allFrom
+radix-two [] i two h = absurd (omega arith)
+radix-two (m ∷ ms) zero two h = leb-true 2 m (and-eq-true-iff (leb 2 m) (allFrom 2 ms) .0 two .0)
+radix-two (m ∷ ms) (suc i) two h = radix-two ms i (and-eq-true-iff (leb 2 m) (allFrom 2 ms) .0 two .1) (omega arith)
 
 -- ---- the product
 pub size-append : (a b : List ℕ) → size (a ++ b) ≡ size a * size b

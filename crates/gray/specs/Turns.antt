@@ -13,7 +13,7 @@ use lib.Seq.{getD-set-same}
 use Rattle.gray.specs.Radices.{size, allFrom}
 use Rattle.gray.specs.Words.{even, reflect}
 use Rattle.gray.specs.Changes.{Moves, Moves.up, Moves.down, Moves.next, ruler, descends}
-use Rattle.gray.specs.Directions.{movedFrom, turnedAt, digitInRange}
+use Rattle.gray.specs.Directions.{movedFrom, turnedAt, wordMoved, downsMoved, digitInRange}
 use Rattle.gray.specs.Members.{wordAt, length-wordAt}
 use Rattle.gray.specs.Rulers.{ruler-carry, ruler-no-carry, descends-carry, descends-no-carry, wordAt-moves, moves-within}
 use Rattle.gray.specs.Sizes.{quotient-below}
@@ -161,11 +161,8 @@ pub record Advances (ms : List ℕ) (r i : ℕ) : Type 0 where
   pub digit : ruler ms (suc r) ≡ suc i
   pub within : i < length ms
   pub direction : getD (downsAt ms r) i false ≡ descends ms (suc r)
-  pub word : set (wordAt ms r) i (movedFrom (getD (wordAt ms r) i 0) (getD (downsAt ms r) i false)) ≡ wordAt ms (suc r)
-  pub downs :
-      set (downsAt ms r) i
-      (turnedAt (getD ms i 0) (movedFrom (getD (wordAt ms r) i 0) (getD (downsAt ms r) i false)) (getD (downsAt ms r) i false))
-      ≡ downsAt ms (suc r)
+  pub word : wordMoved (wordAt ms r) (downsAt ms r) i ≡ wordAt ms (suc r)
+  pub downs : downsMoved ms (wordAt ms r) (downsAt ms r) i ≡ downsAt ms (suc r)
 
 pub walk-advances : (ms : List ℕ) → allFrom 2 ms ≡ true → (r : ℕ) → suc r < size ms → (i : ℕ) × Advances ms r i
 walk-advances ms e r h =

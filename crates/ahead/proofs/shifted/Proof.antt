@@ -6,7 +6,7 @@ use native.Mathlib.Nat.{add-comm}
 use native.Mathlib.Omega.{arith}
 use lib.ListN.{length, getD, take, drop, replicate, length-drop}
 use lib.Seq.{getD-drop}
-use Rattle.ahead.proofs.Ranges.{fill-more, fill-all}
+use Rattle.gray.specs.Filled.{fill-more, fill-all}
 use Rattle.ahead.proofs.shifted.Statement.{statement}
 use Rattle.ahead.proofs.shifted.Tie as tie
 
@@ -45,7 +45,7 @@ loop-again c =
     let long = rest-long at in
     let read : getD queue (i + 1) 0 ≡ getD (drop 1 queue) i 0 =
     ap (λ n. getD queue n 0) (add-comm i 1) ∙ sym (getD-drop 1 queue i 0) in
-    (omega arith, fill-more 32 (drop 1 queue) (at .loop .next) i _ (omega arith) (omega arith) read (at .loop .inv .1))
+    (omega arith, fill-more 32 0 (drop 1 queue) (at .loop .next) i _ (omega arith) (omega arith) read (at .loop .inv .1))
 
 returns : tie.Need-returns Inv-loop μ-loop
 returns c =
@@ -53,7 +53,7 @@ returns c =
     let queue = at .before .args .t1 in
     let long = rest-long at in
     let all : at .loop .i ≡ length (drop 1 queue) = omega arith in
-    fill-all 32 (drop 1 queue) (at .loop .next) (at .loop .i) all (at .loop .inv .1)
+    fill-all 32 0 (drop 1 queue) (at .loop .next) (at .loop .i) all (at .loop .inv .1)
     ∙ ap (λ n. drop 1 queue ++ replicate (32 - n) 0) long
 
 pub shifted-spec : {M : Type 1} → statement M

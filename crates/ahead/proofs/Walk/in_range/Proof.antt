@@ -1,26 +1,32 @@
 -- `ahead::Walk::in_range` meets its contract: each stage's test is a part of the range rule. Assumes nothing.
-use mathlib.Core.Path.{_≡_, sym, ap, subst, _∙_}
+use Prim.Native.Nat.{_≤_}
+use mathlib.Core.Path.{_≡_, sym, ap, _∙_}
 use mathlib.Core.Bool.{true, false}
 use native.Mathlib.Omega.{arith}
 use borrow.Author.Needs.{needs}
-use lib.ListN.{take}
+use lib.ListN.{length, take}
 use lib.Seq.{length-take-le}
 use Rattle.gray.specs.Answers.{given}
 use Rattle.gray.specs.Calls.{countedAs, sizeCall}
 use Rattle.gray.specs.Directions.{digitsInRange}
+use Rattle.gray.specs.DigitRanges.{digits-tested}
+use Rattle.gray.specs.Refusals.{survey-refused, survey-size}
 use Rattle.ahead.specs.States.{survey}
 use Rattle.ahead.specs.Stages.{Radices}
 use Rattle.ahead.specs.InRange.{Arrays}
-use Rattle.ahead.proofs.Ranges.{accepted-radices, accepted-total, right-capacity, digits-over, survey-refused, capacity-tested, not-open, state-tested}
+use Rattle.ahead.proofs.Ranges.{accepted-radices, right-capacity, digits-over, capacity-tested, not-open, state-tested}
 use Rattle.ahead.proofs.Walk.in_range.Statement.{statement}
 use Rattle.ahead.proofs.Walk.in_range.Tie as tie
 
--- places on the way: the entry, from where the radices are accepted, and where the capacity is, from where the arrays are lent
-abbrev start : tie.After-known-told → tie.Start
-start c = c .before .before .before .before .before .before .before .before
+-- places on the way: n as a length, from where the radices are accepted, and where the capacity is, from where the arrays are lent
+abbrev counted : tie.After-known-told → tie.After-wide
+counted c = c .before .before .before .before .before .before
 
-abbrev passed : tie.After-downs2 → tie.Else2
-passed c = c .before .before .before .before .before .before .before .before .before
+abbrev start : tie.After-known-told → tie.Start
+start c = counted c .before .before
+
+abbrev passed : tie.After-queue → tie.Else2
+passed c = c .before .before .before .before .before
 
 lengths : (c : tie.Start) → Arrays (c .args .self)
 lengths c = search needs
@@ -29,17 +35,14 @@ lengths c = search needs
 size-says : (c : tie.After-size) →
     sizeCall (survey (c .before .before .before .before .before .args .self)) ≡ countedAs (c .size .result)
 size-says c =
-    let wide = c .before .before in
-    ap (λ k. sizeCall (take k (wide .before .before .before .args .self .radices))) (sym (wide .wide .ensures .0))
-    ∙ sym (c .size .ensures)
+    let wide = c .before .before .before in
+    ap (λ k. sizeCall (take k (wide .before .before .args .self .radices))) (sym (wide .wide .ensures .0)) ∙ sym (c .size .ensures)
 
 size-is : (c : tie.After-known-told) → sizeCall (survey (start c .args .self)) ≡ given (c .before .counted .given .0 .0)
 size-is c = size-says (c .before .before .before) ∙ ap countedAs (c .before .counted .given .1)
 
 radices-fit : (c : tie.After-known-told) → Radices (start c .args .self .radices) (start c .args .self .n)
-radices-fit c =
-    let most = c .before .before .before .before .before .before .before .if1 .left in
-    accepted-radices _ _ _ (lengths (start c) .radices) most (size-is c)
+radices-fit c = accepted-radices _ _ _ (lengths (start c) .radices) (counted c .before .if1 .left) (size-is c)
 
 returns : tie.Need-returns
 returns c = digits-over (c .before .args .self) (c .if1 .taken)
@@ -47,13 +50,19 @@ returns c = digits-over (c .before .args .self) (c .if1 .taken)
 wide-requires : tie.Need-wide-requires
 wide-requires c κs = search needs
 
+-- n digits fit the arrays of digits
+module _ (c : tie.After-wide) where
+  radices-hold : c .wide .result ≤ length (c .before .before .args .self .radices)
+  radices-hold = omega (arith, lengths (c .before .before))
+
+  word-holds : c .wide .result ≤ length (c .before .before .args .self .word)
+  word-holds = omega (arith, lengths (c .before .before))
+
+  downs-hold : c .wide .result ≤ length (c .before .before .args .self .downs)
+  downs-hold = omega (arith, lengths (c .before .before))
+
 array-share-prefix-radices : tie.Need-array-share-prefix-radices
-array-share-prefix-radices c =
-    let first = c .before .before in
-    let long = lengths (first .before) .radices in
-    let least = first .if1 .left in
-    let n = c .wide .ensures .0 in
-    omega arith
+array-share-prefix-radices c = radices-hold (c .before)
 
 slice-aggregate-size : tie.Need-slice-aggregate-size
 slice-aggregate-size c = sym (length-take-le _ _ (array-share-prefix-radices (c .before)))
@@ -71,30 +80,33 @@ returns-2 : tie.Need-returns-2
 returns-2 c =
     let sized = c .before .before in
     let w = sized .before .before .before .before .before .args .self in
-    not-open w (survey-refused (survey w) (w .capacity) _ (size-says sized ∙ ap countedAs (c .enum-told .given .1)))
+    not-open w (survey-refused (survey w) _ _ (size-says sized ∙ ap countedAs (c .enum-told .given .1)))
 
 returns-3 : tie.Need-returns-3
 returns-3 c =
     let w = start (c .before) .args .self in
-    not-open w (capacity-tested (survey w) (w .capacity) _ true (size-is (c .before)) (c .if2 .taken))
+    not-open w (capacity-tested (survey w) (w .capacity) _ (size-is (c .before)) true (c .if2 .taken))
+
+array-share-prefix-radices-2 : tie.Need-array-share-prefix-radices-2
+array-share-prefix-radices-2 c = radices-hold (counted (passed c .before))
 
 slice-aggregate-digits-in-range : tie.Need-slice-aggregate-digits-in-range
-slice-aggregate-digits-in-range c = search needs
+slice-aggregate-digits-in-range c = sym (length-take-le _ _ (array-share-prefix-radices-2 (c .before)))
 
-wide-requires-2 : tie.Need-wide-requires-2
-wide-requires-2 c κs = search needs
+array-share-prefix-word : tie.Need-array-share-prefix-word
+array-share-prefix-word c = word-holds (counted (passed (c .before) .before))
 
 slice-aggregate-digits-in-range-2 : tie.Need-slice-aggregate-digits-in-range-2
-slice-aggregate-digits-in-range-2 c = search needs
+slice-aggregate-digits-in-range-2 c = sym (length-take-le _ _ (array-share-prefix-word (c .before)))
+
+array-share-prefix-downs : tie.Need-array-share-prefix-downs
+array-share-prefix-downs c = downs-hold (counted (passed (c .before .before) .before))
 
 slice-aggregate-digits-in-range-3 : tie.Need-slice-aggregate-digits-in-range-3
-slice-aggregate-digits-in-range-3 c = search needs
+slice-aggregate-digits-in-range-3 c = sym (length-take-le _ _ (array-share-prefix-downs (c .before)))
 
 digits-in-range-requires : tie.Need-digits-in-range-requires
-digits-in-range-requires c κs =
-    let told = passed c .before in
-    let long = lengths (start told) in
-    (subst (Radices _) (sym (c .before .before .wide2 .ensures .0)) (radices-fit told), long .word, long .downs)
+digits-in-range-requires c κs = search needs
 
 slice-aggregate-producer-in-range : tie.Need-slice-aggregate-producer-in-range
 slice-aggregate-producer-in-range c = search needs
@@ -103,33 +115,38 @@ slice-aggregate-producer-in-range-2 : tie.Need-slice-aggregate-producer-in-range
 slice-aggregate-producer-in-range-2 c = search needs
 
 slice-aggregate-producer-in-range-3 : tie.Need-slice-aggregate-producer-in-range-3
-slice-aggregate-producer-in-range-3 c = sym (lengths (start (passed (c .before .before .before .before) .before)) .queue)
+slice-aggregate-producer-in-range-3 c = search needs
+
+-- the place where the arrays are lent, from a later one
+abbrev lent : tie.After-queue2 → tie.After-queue
+lent c = c .before .before .before .before .before .before .before
 
 producer-in-range-requires : tie.Need-producer-in-range-requires
 producer-in-range-requires c κs =
-    let at = passed (c .before .before .before .before) in
+    let at = passed (lent c) in
     let long = lengths (start (at .before)) in
     (radices-fit (at .before), right-capacity _ (at .if2 .left), long .counter, long .queue)
 
 within-requires : tie.Need-within-requires
-within-requires c κs = accepted-total _ _ (size-is (passed (c .before .before .before .before .before) .before)) .1
+within-requires c κs = survey-size _ _ (size-is (passed (lent (c .before)) .before)) .1
 
 returns-4 : tie.Need-returns-4
 returns-4 c =
-    let notches = c .before .before .before .before .before in
-    let at = passed (notches .before) in
+    let queue = c .before .before in
+    let at = passed (lent queue) in
     let told = at .before in
+    let wide = counted told in
     let w = start told .args .self in
-    let tested : notches .digits-in-range .result ≡ digitsInRange (w .n) (w .radices) (w .word) (w .downs) =
-    subst (λ k. notches .digits-in-range .result ≡ digitsInRange k (w .radices) (w .word) (w .downs))
-    (notches .before .before .before .wide2 .ensures .0)
-    (notches .digits-in-range .ensures) in
+    let tested =
+    queue .before .before .before .digits-in-range .ensures
+    ∙ digits-tested (wide .wide .result) (w .radices) (w .word) (w .downs) (radices-hold wide) (word-holds wide) (downs-hold wide)
+    ∙ ap (λ k. digitsInRange k (w .radices) (w .word) (w .downs)) (wide .wide .ensures .0) in
     state-tested w _ _ _ _
-    (told .before .before .before .before .before .before .before .if1 .left)
-    (capacity-tested (survey w) (w .capacity) _ false (size-is told) (at .if2 .left))
+    (wide .before .if1 .left)
+    (capacity-tested (survey w) (w .capacity) _ (size-is told) false (at .if2 .left))
     tested
     (c .before .producer-in-range .ensures)
-    (accepted-total (survey w) _ (size-is told) .0)
+    (survey-size (survey w) _ (size-is told) .0)
     (c .within .ensures)
 
 pub in-range-spec : {M : Type 1} → statement M
@@ -145,9 +162,11 @@ in-range-spec =
     enum-told
     returns-2
     returns-3
+    array-share-prefix-radices-2
     slice-aggregate-digits-in-range
-    wide-requires-2
+    array-share-prefix-word
     slice-aggregate-digits-in-range-2
+    array-share-prefix-downs
     slice-aggregate-digits-in-range-3
     digits-in-range-requires
     slice-aggregate-producer-in-range

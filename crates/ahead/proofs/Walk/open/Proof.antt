@@ -41,7 +41,7 @@ returns-2 c =
     capacity-refused (a .self) (a .radices .now) (a .capacity) _ (size-is told) (c .if1 .taken)
 
 reversed-requires : tie.Need-reversed-requires
-reversed-requires c κs = accepted _ _ (size-is (c .before)) .most
+reversed-requires c κs = search needs
 
 cast-fresh : tie.Need-cast-fresh
 cast-fresh c =
