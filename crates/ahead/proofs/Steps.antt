@@ -159,7 +159,7 @@ module _ (w : Walk) (s : Ranged w) (room : length (w .radices) ≡ 48) where
         let here = producer-says (survey w) (w .capacity) (assembled counter queue at) (r .ahead) .at in
         let two = at-most-two (w .ended) in
         record {
-          survey = record { room = room; most = s .most; two = sound .two };
+          survey = record { room = room; most = s .most; two = sound .survey .two };
           long = r .counter;
           wide = r .queue;
           capacity = sound .capacity;
@@ -176,7 +176,7 @@ module _ (w : Walk) (s : Ranged w) (room : length (w .radices) ≡ 48) where
         let long = survey-long w s room in
         let oldest = producer-says (survey w) (w .capacity) (assembled counter queue at) (r .ahead) .entries 0 (omega arith) in
         record {
-          survey = record { room = room; most = s .most; two = sound .two };
+          survey = record { room = room; most = s .most; two = sound .survey .two };
           notches = s .notches;
           from-one = oldest .from-one;
           digit = omega arith;

@@ -129,11 +129,11 @@ module _ (ms : List ℕ) (c : ℕ) (v : Openable ms c) (t k p : ℕ) (at : Posit
   test-is =
       let w = place-within in
       let l = length-places ms in
-      let r : ruler (places ms) (suc (t + k)) ≡ ruler ms (suc (t + k)) = ruler-places ms (one ms (v .two)) (t + k) lasts in
+      let r : ruler (places ms) (suc (t + k)) ≡ ruler ms (suc (t + k)) = ruler-places ms (one ms (v .survey .two)) (t + k) lasts in
       let h : p < ruler (places ms) (suc (t + k)) = rw r (at .carries) in
       ap (λ (b : ℕ). eqb b (getD (places ms) (suc p - 1) 0 - 1)) count-is
       ∙ ap (λ (i : ℕ). eqb (getD finished p 0) (getD (places ms) i 0 - 1)) index
-      ∙ carry-test (places ms) (allFrom-places 1 ms (omega arith) (one ms (v .two))) (t + k) p (omega arith) h
+      ∙ carry-test (places ms) (allFrom-places 1 ms (omega arith) (one ms (v .survey .two))) (t + k) p (omega arith) h
       ∙ ap (λ (n : ℕ). ltb (suc p) n) r
 
   -- at place n + 1 the radix is 2, and no carry goes beyond
@@ -173,13 +173,13 @@ module _ (ms : List ℕ) (c : ℕ) (v : Openable ms c) (t k p : ℕ) (at : Posit
       let l = long in
       let w = place-within in
       let m = length-places ms in
-      let r = ruler-places ms (one ms (v .two)) (t + k) lasts in
+      let r = ruler-places ms (one ms (v .survey .two)) (t + k) lasts in
       let e : suc (t + k) ≡ t + suc k = omega arith in
       ap (λ (b : ℕ). set (filled 49 0 (cleared p finished)) (suc p - 1) (b + 1)) count-is
       ∙ ap (λ (i : ℕ). set (filled 49 0 (cleared p finished)) i (getD finished p 0 + 1)) index
       ∙ set-filled 49 0 (cleared p finished) p (getD finished p 0 + 1) (omega arith)
       ∙ ap (filled 49 0)
-      (append-counts (places ms) (allFrom-places 1 ms (omega arith) (one ms (v .two))) (t + k) p (omega arith) (last ∙ sym r))
+      (append-counts (places ms) (allFrom-places 1 ms (omega arith) (one ms (v .survey .two))) (t + k) p (omega arith) (last ∙ sym r))
       ∙ ap (λ (j : ℕ). filled 49 0 (mixedDigits (places ms) j)) e
 
   -- the queue with one entry more
@@ -211,7 +211,7 @@ module _ (ms : List ℕ) (c : ℕ) (v : Openable ms c) (t k p : ℕ) (at : Posit
   appends-one h room =
       let cap = v .capacity in
       let w : Worked ms c t k p append (suc k) 0 = appended h room in
-      let n : stepsAt ms t (suc k) 0 ≡ stepsAt ms t k p + 1 = unfold gained in work-steps (v .two) w in
+      let n : stepsAt ms t (suc k) 0 ≡ stepsAt ms t k p + 1 = unfold gained in work-steps (v .survey .two) w in
       record {
         numbers = w;
         is-kind = kind-append ms c (producerAt ms t k p) not-run-out (no-carry h) (lt-ltb k c room);

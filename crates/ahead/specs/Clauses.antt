@@ -114,8 +114,8 @@ module _ (ms : List ℕ) (c last : ℕ) (v : Openable ms c) (whole : size ms ≡
   finishes T before later here = by (reaches (run T))
     where
       by : Reaches ms c last (fresh ms c) T → Finished ms before
-      by (going-on t g e same) = tally-finished before later (v .two) (g .tallied) (sym same ∙ here)
-      by (ended-at s e same) = tally-finished before later (v .two) (s .tallied) (sym same ∙ here)
+      by (going-on t g e same) = tally-finished before later (v .survey .two) (g .tallied) (sym same ∙ here)
+      by (ended-at s e same) = tally-finished before later (v .survey .two) (s .tallied) (sym same ∙ here)
 
   -- (c)
   counted-at : (t k p : ℕ) (w : Walk)
@@ -126,7 +126,7 @@ module _ (ms : List ℕ) (c last : ℕ) (v : Openable ms c) (whole : size ms ≡
   counted-at t k p w at r e =
       let s : state w t .producer .steps ≡ stepsAt ms t k p = ap (λ (q : Producer). q .steps) e in
       let q : state w t .producer .queued ≡ k = ap (λ (q : Producer). q .queued) e in
-      let short = steps-short (v .two) at in
+      let short = steps-short (v .survey .two) at in
       record {
         steps = s ∙ sym (r .steps);
         entries = r .entries ∙ ap (λ (j : ℕ). t + j) (sym q);

@@ -342,7 +342,7 @@ module _ (w : Walk) (s : Ranged w) where
       let one = one-step k p in
       record {
         ahead =
-            work-keeps (survey w) (w .capacity) p (sound .two) (r .counter) (omega arith) (r .queue) (sound .capacity) (r .ahead);
+            work-keeps (survey w) (w .capacity) p (sound .survey .two) (r .counter) (omega arith) (r .queue) (sound .capacity) (r .ahead);
         counter = counter-long k p ∙ r .counter;
         queue = queue-long k p ∙ r .queue;
         steps = omega arith;

@@ -114,7 +114,7 @@ module _ (w : Walk) (a : Arrays w) (ranged : inRange w ≡ true) where
       let s = range-says w ranged in
       let limit = steps-after going in
       let long = survey-long w s (a .radices) in
-      let two = radix-two (survey w) (k - 1) (survey-openable w s .two) (omega arith) in
+      let two = radix-two (survey w) (k - 1) (survey-openable w s .survey .two) (omega arith) in
       let same = getD-take (w .n) (w .radices) (k - 1) 0 (omega arith) in
       ap (λ h. inRange (h .state)) e
       ∙ says-range (moveOf w k (dequeued (twice w)) .state)

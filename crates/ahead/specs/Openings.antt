@@ -1,17 +1,16 @@
 -- Which surveys and capacities are opened: those within the limits, and no other.
-use Prim.Native.Nat.{ℕ, _^_, _≤_}
+use Prim.Native.Nat.{ℕ, _≤_}
 use native.Mathlib.Omega.{arith}
-use mathlib.Core.Path.{_≡_, refl, ap}
+use mathlib.Core.Path.{_≡_, refl, ap, _∙_}
 use mathlib.Core.Logic.{_↔_}
 use mathlib.Core.Bool.{true}
 use mathlib.Core.List.{List}
-use borrow.Author.Tests.{eqb-false, ltb-false, not-false, ne-eqb, le-ltb}
+use borrow.Author.Tests.{eqb-false, ltb-false, ne-eqb, le-ltb}
 use lib.Dec.{eqb, ltb}
-use lib.ListN.{length}
 use Rattle.gray.specs.Answers.{Answer, given, refused, refusing}
 use Rattle.gray.specs.Bools.{impossible, neither}
-use Rattle.gray.specs.Radices.{digits, size, allFrom}
-use Rattle.gray.specs.Refusals.{faultless, passed}
+use Rattle.gray.specs.Radices.{digits}
+use Rattle.gray.specs.Refusals.{Limits, within-limits, limits-pass, passed}
 use Rattle.gray.specs.Answers.{isGiven}
 use Rattle.ahead.specs.declared.Walk.{Walk}
 use Rattle.ahead.specs.States.{wrongCapacity, openCheck}
@@ -19,10 +18,7 @@ use Rattle.ahead.specs.Calls.{fresh, openWith, openOf}
 
 -- document 01, "Limits"
 pub record Openable (ms : List ℕ) (c : ℕ) : Type 0 where
-  pub some : 1 ≤ length ms
-  pub most : length ms ≤ 48
-  pub two : allFrom 2 ms ≡ true
-  pub limit : size ms ≤ 2 ^ 62
+  pub survey : Limits ms
   pub place : 1 ≤ c
   pub capacity : c ≤ 32
 
@@ -33,27 +29,16 @@ openable ms c e = by (openCheck ms c) refl e
     by : (a : Answer Unit) → openCheck ms c ≡ a → isGiven a ≡ true → Openable ms c
     by (refused k) f t = impossible (cc)
     by (given u) f t =
-        let p = faultless ms (refusing 5 (wrongCapacity c) (given tt)) u f in
-        let count = neither (eqb (length ms) 0) (ltb 48 (length ms)) (p .no-count) in
-        let places = neither (eqb c 0) (ltb 32 c) (passed 5 (wrongCapacity c) (given tt) u (p .value) .0) in
-        let no-digit = eqb-false (length ms) 0 (count .0) in
+        let (limits, value) = within-limits ms (refusing 5 (wrongCapacity c) (given tt)) u f in
+        let places = neither (eqb c 0) (ltb 32 c) (passed 5 (wrongCapacity c) (given tt) u value .0) in
         let no-place = eqb-false c 0 (places .0) in
-        record {
-          some = omega arith;
-          most = ltb-false 48 (length ms) (count .1);
-          two = not-false (allFrom 2 ms) (p .no-radix);
-          limit = ltb-false (2 ^ 62) (size ms) (p .no-many);
-          place = omega arith;
-          capacity = ltb-false 32 c (places .1);
-        }
+        record { survey = limits; place = omega arith; capacity = ltb-false 32 c (places .1) }
 
 pub opens : {ms : List ℕ} {c : ℕ} → Openable ms c → openCheck ms c ≡ given tt
 opens {ms} {c} o =
-    let a = o .some in
     let b = o .place in
-    rw
-    (ne-eqb (length ms) 0 (λ z. omega arith), le-ltb 48 (length ms) (o .most), o .two)
-    (rw (le-ltb (2 ^ 62) (size ms) (o .limit), ne-eqb c 0 (λ z. omega arith), le-ltb 32 c (o .capacity)))
+    limits-pass ms (refusing 5 (wrongCapacity c) (given tt)) (o .survey)
+    ∙ rw (ne-eqb c 0 (λ z. omega arith), le-ltb 32 c (o .capacity))
 
 -- ---- the call
 accepted-given : (w : Walk) (ms : List ℕ) (c : ℕ) (a : Answer Unit) → openWith w ms c a .answer ≡ given tt → isGiven a ≡ true

@@ -90,12 +90,12 @@ pub record Ending (ms : List ℕ) (c last : ℕ) (w : Walk) : Type 0 where
 fresh-is : (ms : List ℕ) (c : ℕ) → Openable ms c → fresh ms c ≡ running ms c 0 0 0
 unfolding fresh entries
 fresh-is ms c v =
-    let m = v .most in
+    let m = v .survey .most in
     let l = length-places ms in
     let counter : replicate 49 0 ≡ filled 49 0 (mixedDigits (places ms) 0) =
     sym (ap (filled 49 0) (mixed-start (places ms)) ∙ filled-replicate 49 0 (length (places ms)) (omega arith)) in
     let z = cost-zero ms in
-    same-walk (word-array-start ms m) (down-array-start ms (v .two) m) (same-producer counter refl refl refl (omega arith)) refl
+    same-walk (word-array-start ms m) (down-array-start ms (v .survey .two) m) (same-producer counter refl refl refl (omega arith)) refl
 
 -- the setting that a state of the run holds
 pub setting-is : (ms : List ℕ) (c t : ℕ) (over : Bool) (q : Producer) → t < size ms → setting (walkAt ms c t over q) ≡ member ms t
@@ -117,7 +117,7 @@ going-start ms c last v whole =
       below = omega arith;
       low = omega arith;
       is-state = fresh-is ms c v;
-      ahead = λ enough. subst (λ (s : ℕ). Ahead ms 0 0 s) none (ahead-fresh ms (v .two));
+      ahead = λ enough. subst (λ (s : ℕ). Ahead ms 0 0 s) none (ahead-fresh ms (v .survey .two));
       behind = subst (λ (s : ℕ). Behind ms c last 0 0 s) none (behind-fresh ms c last (v .place));
       tallied = tally-start ms;
       named = λ j from to. absurd (omega arith);
@@ -152,8 +152,8 @@ worked-twice : {ms : List ℕ} {c last t : ℕ} {w : Walk}
     → WorkedTwice ms c last t (r .k₂) (r .p₂) (events w t ++ (r .e₁ ∷ r .e₂ ∷ []))
 worked-twice {ms} {c} {last} {t} {w} v g r =
     let at₁ = work-position (g .at) (r .first) in
-    let n₁ = work-steps (v .two) (r .first) in
-    let n₂ = work-steps (v .two) (r .second) in
+    let n₁ = work-steps (v .survey .two) (r .first) in
+    let n₂ = work-steps (v .survey .two) (r .second) in
     let g₁ = gain-small (r .e₁) in
     let g₂ = gain-small (r .e₂) in
     let low = g .low in
@@ -162,8 +162,8 @@ worked-twice {ms} {c} {last} {t} {w} v g r =
       low = omega arith;
       ahead = λ enough.
           ahead-work 1 v enough (omega arith) (r .second) (ahead-work 0 v enough (omega arith) (r .first) (g .ahead enough));
-      behind = behind-work last 1 (v .two) at₁ (r .second) (behind-work last 0 (v .two) (g .at) (r .first) (g .behind));
-      tallied = tally-twice (v .two) (r .first) (r .second) (g .tallied);
+      behind = behind-work last 1 (v .survey .two) at₁ (r .second) (behind-work last 0 (v .survey .two) (g .at) (r .first) (g .behind));
+      tallied = tally-twice (v .survey .two) (r .first) (r .second) (g .tallied);
     }
 
 removed : {ms : List ℕ} {c last t k p : ℕ} {es : List Work}
@@ -211,7 +211,7 @@ module _ (ms : List ℕ) (c last : ℕ) (v : Openable ms c) (whole : size ms ≡
         few =
             elim (decLt (2 * c) (length ms)) [
               | yes few ↦ few
-              | no enough ↦ let some = ahead-queued (v .two) (n .at) (g .below) (n .ahead (omega arith)) in absurd (omega arith)
+              | no enough ↦ let some = ahead-queued (v .survey .two) (n .at) (g .below) (n .ahead (omega arith)) in absurd (omega arith)
             ];
         still = record { there = g .is-state; stays = ap (λ (h : Handed Walk Event). h .state) step; quiet = ap (eventsBy now) e };
         refuses = ap (λ (h : Handed Walk Event). h .answer) step;
@@ -280,7 +280,7 @@ module _ (ms : List ℕ) (c last : ℕ) (v : Openable ms c) (whole : size ms ≡
         k = k′;
         p = r .p₂;
         at = at;
-        enough = behind-queued last (v .two) (two .at) whole here (omega arith) (two .behind);
+        enough = behind-queued last (v .survey .two) (two .at) whole here (omega arith) (two .behind);
         is-state = arrives;
         ranged = ranged;
         still = record { there = arrives; stays = ap (λ (h : Handed Walk Event). h .state) stays; quiet = ap (eventsBy stop) again };

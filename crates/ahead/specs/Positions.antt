@@ -122,11 +122,11 @@ ahead-idle : (ms : List ℕ) (c t p x : ℕ)
     → (d : ℕ)
     → cost ms (t + suc d) + suc x ≤ stepsAt ms t c p + 2 * suc d
 ahead-idle ms c t p x v enough small last d =
-    let n = entry-costs-ruler ms (one ms (v .two)) (t + c) in
+    let n = entry-costs-ruler ms (one ms (v .survey .two)) (t + c) in
     elim (decLt d c) [
       | yes q ↦
           let e : t + suc d + (c - suc d) ≡ t + c = omega arith in
-          let m : cost ms (t + suc d) ≤ cost ms (t + c) = rw e at (cost-mono ms (one ms (v .two)) (t + suc d) (c - suc d)) in
+          let m : cost ms (t + suc d) ≤ cost ms (t + c) = rw e at (cost-mono ms (one ms (v .survey .two)) (t + suc d) (c - suc d)) in
           omega arith
       | no q ↦
           let f = d - c in
@@ -138,7 +138,7 @@ ahead-idle ms c t p x v enough small last d =
           let g : suc (t + c) + f ≡ suc (t + c) = omega arith in
           let here = ap (cost ms) g in
           omega arith)
-          (λ pos. let b = cost-burst ms (v .two) (suc (t + c)) f pos in omega arith)
+          (λ pos. let b = cost-burst ms (v .survey .two) (suc (t + c)) f pos in omega arith)
           (eq-zero-or-pos f)
     ]
 
@@ -151,7 +151,7 @@ pub ahead-work : {ms : List ℕ} {c t k p : ℕ} {e : Work} {k′ p′ : ℕ} (x
     → Ahead ms t (suc x) (stepsAt ms t k′ p′)
 ahead-work x v enough small (carried h) a d within = let b = a d within in omega arith
 ahead-work {ms} {t = t} {k = k} x v enough small (appended h room) a d within =
-    let b = a d within in let n = next-cost ms (v .two) t k in omega arith
+    let b = a d within in let n = next-cost ms (v .survey .two) t k in omega arith
 ahead-work {ms} {c} {t} {k} {p} x v enough small (idled h full) a d within =
     let g : suc p ≡ ruler ms (suc (t + c)) = h ∙ ap (λ (j : ℕ). ruler ms (suc (t + j))) full in
     let same : stepsAt ms t c p ≡ stepsAt ms t k p = ap (λ (j : ℕ). stepsAt ms t j p) (sym full) in
@@ -238,7 +238,7 @@ counter-lasts {ms} {c} {t} {k} {p} v at h =
     elim (decLt (suc (t + k)) (2 * size ms)) [
       | yes q ↦ q
       | no q ↦
-          let pos = size-pos ms (one ms (v .two)) in
-          let more = cost-from-N ms (one ms (v .two)) (t + k) (v .some) (omega arith) in
+          let pos = size-pos ms (one ms (v .survey .two)) in
+          let more = cost-from-N ms (one ms (v .survey .two)) (t + k) (v .survey .some) (omega arith) in
           absurd (omega arith)
     ]

@@ -47,7 +47,7 @@ module _ (ms : List ℕ) (c : ℕ) (v : Openable ms c) (t k p : ℕ) (at : Posit
       let f = at .carries in
       let long = length-cleared p (mixedDigits (places ms) (t + k)) (omega arith) in
       let low = cleared-below p (mixedDigits (places ms) (t + k)) i in
-      let below = mixed-below (places ms) (allFrom-places 1 ms (omega arith) (one ms (v .two))) (t + k) i (omega arith) in
+      let below = mixed-below (places ms) (allFrom-places 1 ms (omega arith) (one ms (v .survey .two))) (t + k) i (omega arith) in
       rw (getD-filled 49 0 (cleared p (mixedDigits (places ms) (t + k))) i 0 (omega arith)) (lt-of-le-of-lt low below)
 
   entry-is-place : (i : ℕ) → i < k → IsPlace ms (getD (filled 32 0 (entries ms t k)) i 0)
@@ -83,9 +83,9 @@ state-ranged ms c t over q v below ranged limit =
     let survey-is : survey (walkAt ms c t over q) ≡ ms = take-filled 48 0 ms in
     says-range (walkAt ms c t over q)
     (record {
-      most = v .most;
+      most = v .survey .most;
       opens = rw survey-is (ap isGiven (opens v));
-      notches = arrays-in-range ms (v .two) t;
+      notches = arrays-in-range ms (v .survey .two) t;
       ahead = rw survey-is ranged;
       rank = rw survey-is below;
       steps = limit;

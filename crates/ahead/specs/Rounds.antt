@@ -94,7 +94,7 @@ round ms c v t k p at below low =
     let (e₁, k₁, p₁, d₁) = does ms c v t k p at lasts in
     let at₁ : Position ms c t k₁ p₁ = work-position at (d₁ .numbers) in
     let g = gain-small e₁ in
-    let n = work-steps (v .two) (d₁ .numbers) in
+    let n = work-steps (v .survey .two) (d₁ .numbers) in
     let lasts₁ = counter-lasts v at₁ (omega arith) in
     let (e₂, k₂, p₂, d₂) = does ms c v t k₁ p₁ at₁ lasts₁ in
     joined d₁ d₂ (not-run-out ms c v t k p at lasts) (not-run-out ms c v t k₁ p₁ at₁ lasts₁)
@@ -168,7 +168,7 @@ module _ (ms : List ℕ) (c : ℕ) (v : Openable ms c) (t k p : ℕ) (at : Posit
         → stepOf (running ms c t k p)
         ≡ record { state = running ms c (suc t) k′ (r .p₂); answer = given (moved (change ms (suc t))) }
     move-call more =
-        let (i, a) = walk-advances ms (v .two) t more in
+        let (i, a) = walk-advances ms (v .survey .two) t more in
         let inside = a .within in
         let digit = oldest-is ∙ a .digit in
         removes-digit (running ms c t k p) (removing-call r k′ some) (λ last. omega arith)
@@ -181,6 +181,6 @@ module _ (ms : List ℕ) (c : ℕ) (v : Openable ms c) (t k p : ℕ) (at : Posit
         ≡ record { state = walkAt ms c t true (producerAt ms (suc t) k′ (r .p₂)); answer = given ended }
     unfolding endOf
     end-call last =
-        let e : ruler ms (suc t) ≡ suc (length ms) = ap (ruler ms) last ∙ ruler-at-end ms (one ms (v .two)) in
+        let e : ruler ms (suc t) ≡ suc (length ms) = ap (ruler ms) last ∙ ruler-at-end ms (one ms (v .survey .two)) in
         let n : suc (length ms) ≡ length ms + 1 = omega arith in
         removes-last (running ms c t k p) (removing-call r k′ some) (oldest-is ∙ e ∙ n) ∙ ap (endOf (running ms c t k p)) left-is

@@ -23,7 +23,7 @@ pub fresh-walks-work-ahead : (w : Walk) (radices : List ℕ) (c : ℕ)
     → WorksAhead (digits radices) c (openOf w radices c .state)
 fresh-walks-work-ahead w radices c accepted =
     let o = opens-exactly w radices c .0 accepted in
-    let pos = size-pos (digits radices) (one (digits radices) (o .two)) in
+    let pos = size-pos (digits radices) (one (digits radices) (o .survey .two)) in
     rw (opens-fresh w radices c accepted) (run-works-ahead (digits radices) c (size (digits radices) - 1) o (omega arith))
 
 -- Every state of such a run is in range, so that no call of it gets 7, and the counter never runs out: the idle rule at place
@@ -33,5 +33,5 @@ pub fresh-walks-stay-in-range : (w : Walk) (radices : List ℕ) (c : ℕ)
     → StaysInRange (digits radices) (openOf w radices c .state)
 fresh-walks-stay-in-range w radices c accepted =
     let o = opens-exactly w radices c .0 accepted in
-    let pos = size-pos (digits radices) (one (digits radices) (o .two)) in
+    let pos = size-pos (digits radices) (one (digits radices) (o .survey .two)) in
     rw (opens-fresh w radices c accepted) (run-stays-in-range (digits radices) c (size (digits radices) - 1) o (omega arith))

@@ -5,7 +5,7 @@ use native.Mathlib.Omega.{arith}
 use mathlib.Core.Path.{_≡_, refl, sym, ap, _∙_}
 use mathlib.Core.Bool.{Bool, true, false, not}
 use mathlib.Core.List.{List, _++_}
-use borrow.Author.Tests.{eqb-false, ltb-false, not-false}
+use borrow.Author.Tests.{eqb-false, ltb-false, not-false, ne-eqb, le-ltb}
 use lib.Dec.{eqb, ltb}
 use lib.ListN.{length, drop, length-reverse}
 use Rattle.gray.specs.Answers.{Answer, given, refused, refusing, numberOf, isGiven, byteCount, outputAfter, Wrote}
@@ -60,6 +60,35 @@ no-fault (none e f g) rest a p = record { no-count = e; no-radix = f; no-many = 
 pub faultless : {A : Type 0} (ms : List ℕ) (rest : Answer A) (a : A) → ofRadices ms rest ≡ given a → Faultless ms rest a
 faultless ms rest a e = no-fault (fault ms) rest a (sym (lowest-fault-is-given ms (fault ms) rest) ∙ e)
 
+-- document 01, "Limits": what holds of radices that pass refusals 2, 3 and 4
+pub record Limits (ms : List ℕ) : Type 0 where
+  pub some : 1 ≤ length ms
+  pub most : length ms ≤ 48
+  pub two : allFrom 2 ms ≡ true
+  pub limit : size ms ≤ 2 ^ 62
+
+module _ {A : Type 0} (ms : List ℕ) (rest : Answer A) where
+  -- a call gives a value only if its radices are within the limits and the checks after theirs give it
+  pub within-limits : (a : A) → ofRadices ms rest ≡ given a → Limits ms × (rest ≡ given a)
+  within-limits a e =
+      let p = faultless ms rest a e in
+      let count = neither (eqb (length ms) 0) (ltb 48 (length ms)) (p .no-count) in
+      let no-zero = eqb-false (length ms) 0 (count .0) in
+      let limits : Limits ms =
+      record {
+        some = omega arith;
+        most = ltb-false 48 (length ms) (count .1);
+        two = not-false (allFrom 2 ms) (p .no-radix);
+        limit = ltb-false (2 ^ 62) (size ms) (p .no-many);
+      } in
+      (limits, p .value)
+
+  pub limits-pass : Limits ms → ofRadices ms rest ≡ rest
+  limits-pass l =
+      let some = l .some in
+      rw
+      (ne-eqb (length ms) 0 (λ z. omega arith), le-ltb 48 (length ms) (l .most), l .two, le-ltb (2 ^ 62) (size ms) (l .limit))
+
 -- what holds of accepted radices
 pub record Accepted (l : List ℕ) (n : ℕ) : Type 0 where
   pub some : 0 < length l
@@ -71,18 +100,16 @@ pub record Accepted (l : List ℕ) (n : ℕ) : Type 0 where
 pub accepted : (l : List ℕ) (n : ℕ) → sizeCall l ≡ given n → Accepted l n
 unfolding sizeCall
 accepted l n e =
-    let p = faultless (digits l) (given (size (digits l))) n e in
-    let q = neither (eqb (length (digits l)) 0) (ltb 48 (length (digits l))) (p .no-count) in
-    let no-zero = eqb-false (length (digits l)) 0 (q .0) in
-    let most = ltb-false 48 (length (digits l)) (q .1) in
+    let (limits, value) = within-limits (digits l) (given (size (digits l))) n e in
     let long = length-reverse l in
-    let not-none : length l ≡ 0 → ⊥ = λ z. no-zero (long ∙ z) in
+    let some = limits .some in
+    let most = limits .most in
     record {
       some = omega arith;
       most = omega arith;
-      two = not-false (allFrom 2 (digits l)) (p .no-radix);
-      whole = sym (given-same (size (digits l)) n (p .value));
-      limit = ltb-false (2 ^ 62) (size (digits l)) (p .no-many);
+      two = limits .two;
+      whole = sym (given-same (size (digits l)) n value);
+      limit = limits .limit;
     }
 
 pub radices-accepted : {A : Type 0} (l : List ℕ) (n : ℕ) (rest : Answer A)

@@ -1,0 +1,4 @@
+-- Laws that the proofs of several functions cite.
+pub mod Games
+pub mod Ranges
+pub mod Steps

@@ -1,0 +1,15 @@
+-- `towers::Towers::closed` meets its contract. Assumes nothing.
+use borrow.Author.Needs.{needs}
+use Rattle.towers.specs.Calls.{fresh}
+use Rattle.towers.proofs.Towers.closed.Statement.{statement}
+use Rattle.towers.proofs.Towers.closed.Tie as tie
+
+fresh-requires : tie.Need-fresh-requires
+fresh-requires c κs = search needs
+
+returns : tie.Need-returns
+unfolding fresh
+returns c = c .fresh .ensures
+
+pub closed-spec : {M : Type 1} → statement M
+closed-spec = tie.close (tie.spec fresh-requires returns)

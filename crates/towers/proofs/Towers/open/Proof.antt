@@ -1,0 +1,87 @@
+-- `towers::Towers::open` meets its contract: a stage that refuses hands the state back, and what passes every stage opens. Assumes
+-- nothing.
+use mathlib.Core.Path.{_≡_, sym, ap, _∙_}
+use native.Mathlib.Omega.{arith}
+use borrow.Author.Needs.{needs}
+use lib.Seq.{length-take-le}
+use Rattle.gray.specs.Answers.{given}
+use Rattle.gray.specs.Calls.{countedAs, sizeCall}
+use Rattle.gray.specs.Refusals.{accepted, passed-on}
+use Rattle.towers.proofs.Ranges.{opening-refused, array-room, array-some, counts-refused, opening-given}
+use Rattle.towers.proofs.Towers.open.Statement.{statement}
+use Rattle.towers.proofs.Towers.open.Tie as tie
+
+-- what is known once the radices are accepted
+size-is : (c : tie.After-enum-told) →
+    sizeCall (c .before .before .before .before .args .radices .now) ≡ given (c .enum-told .given .0 .0)
+size-is c = sym (c .before .before .size .ensures) ∙ ap countedAs (c .enum-told .given .1)
+
+size-requires : tie.Need-size-requires
+size-requires c κs = search needs
+
+enum-told : tie.Need-enum-told
+enum-told c = search needs
+
+enum-told-2 : tie.Need-enum-told-2
+enum-told-2 c = search needs
+
+number-requires : tie.Need-number-requires
+number-requires c κs = search needs
+
+returns : tie.Need-returns
+returns c =
+    let told = c .before in
+    let a = told .before .before .before .before .args in
+    opening-refused (a .self) (a .radices .now) _
+    (passed-on _ _ _ _ _ (told .before .before .size .ensures) (told .enum-told2 .given .1) (c .number .ensures))
+
+reversed-requires : tie.Need-reversed-requires
+reversed-requires c κs = search needs
+
+array-share-prefix-digits : tie.Need-array-share-prefix-digits
+array-share-prefix-digits c = array-room _ _ (size-is (c .before)) _ (c .reversed .ensures)
+
+slice-aggregate-playable : tie.Need-slice-aggregate-playable
+slice-aggregate-playable c = sym (length-take-le _ _ (array-share-prefix-digits (c .before)))
+
+playable-requires : tie.Need-playable-requires
+playable-requires c κs = array-some _ _ (size-is (c .before .before)) _ (c .before .reversed .ensures)
+
+returns-2 : tie.Need-returns-2
+returns-2 c =
+    let made = c .before .before .before in
+    counts-refused _ _ (size-is (made .before)) _ (made .reversed .ensures) _ _ (c .before .playable .ensures) (c .if1 .taken)
+
+cast-fresh : tie.Need-cast-fresh
+cast-fresh c =
+    let told = c .before .before .before .before in
+    let most = accepted (told .before .before .before .before .args .radices .now) _ (size-is told) .most in
+    omega arith
+
+fresh-requires : tie.Need-fresh-requires
+fresh-requires c κs = search needs
+
+returns-3 : tie.Need-returns-3
+returns-3 c =
+    let passed = c .before in
+    let made = passed .before .before .before in
+    opening-given _ _ (size-is (made .before)) _ (made .reversed .ensures) _ _ (passed .before .playable .ensures) (passed .if1 .left) _
+    (c .fresh .ensures)
+
+pub open-spec : {M : Type 1} → statement M
+open-spec =
+    tie.close
+    (tie.spec
+    size-requires
+    enum-told
+    enum-told-2
+    number-requires
+    returns
+    reversed-requires
+    array-share-prefix-digits
+    slice-aggregate-playable
+    playable-requires
+    returns-2
+    cast-fresh
+    fresh-requires
+    returns-3)

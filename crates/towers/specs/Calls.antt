@@ -1,0 +1,97 @@
+-- The disk engine's calls (document 01, "The disk engine"): what each hands back, for every state there is.
+use Prim.Native.Nat.{ℕ, suc, _+_, _-_}
+use mathlib.Core.Bool.{false, cond, not}
+use mathlib.Core.List.{List, []}
+use mathlib.Core.Option.{Option, none, some}
+use lib.Dec.{eqb}
+use lib.ListN.{length, getD, set, replicate}
+use Rattle.gray.specs.Answers.{Answer, given, refused}
+use Rattle.gray.specs.Radices.{digits}
+use Rattle.gray.specs.Words.{even}
+use Rattle.gray.specs.Arrays.{filled}
+use Rattle.gray.specs.Directions.{wordMoved, downsMoved}
+use Rattle.gray.specs.Engines.{Event, moved, ended, Handed, refusedWith, openingAs, steppingAs}
+use Rattle.towers.specs.declared.Towers.{Towers}
+use Rattle.towers.specs.declared.Opened.{Opened}
+use Rattle.towers.specs.declared.Stepped.{Stepped}
+use Rattle.towers.specs.States.{allOdd, common, openCheck, survey, inRange}
+use Rattle.towers.specs.Choices.{sweeping, chosen}
+
+-- what the calls return, in document 01's terms
+abbrev pub openedAs : Opened → Handed Towers Unit
+openedAs r = record { state = r .towers; answer = openingAs (r .answer) }
+
+abbrev pub steppedAs : Stepped → Handed Towers Event
+steppedAs r = record { state = r .towers; answer = steppingAs (r .answer) }
+
+-- ---- opening
+-- the fresh state of the n radices in an array: the setting all 0, directions all up, turn 0, all disks on peg 0
+abbrev pub freshWith : List ℕ → ℕ → Towers
+freshWith radices n = record {
+  radices = radices;
+  n = n;
+  word = replicate 48 0;
+  turn = 0;
+  downs = replicate 48 false;
+  pegs = replicate 48 0;
+}
+
+unfoldable pub fresh : List ℕ → Towers
+fresh ms = freshWith (filled 48 0 ms) (length ms)
+
+-- the state of no survey
+abbrev pub closedTowers : Towers
+closedTowers = fresh []
+
+-- a refused opening hands back the state as it came, an accepted one the fresh state
+abbrev pub openWith : Towers → List ℕ → Answer Unit → Handed Towers Unit
+openWith s ms (given u) = record { state = fresh ms; answer = given u }
+openWith s ms (refused k) = refusedWith k s
+
+unfoldable pub openOf : Towers → List ℕ → Handed Towers Unit
+openOf s radices = openWith s (digits radices) (openCheck (digits radices))
+
+-- ---- one call
+-- the turn after a move: for odd counts the other pair's; for even ones a move of disk 1 more, or 0 after the other disk's move
+abbrev pub turnAfter : Towers → ℕ
+turnAfter s =
+    cond (allOdd (survey s)) (1 - s .turn) (cond (sweeping (common (survey s)) (s .turn)) (s .turn + 1) 0)
+
+-- the next peg of a ring of m + 1, clockwise and the other way
+abbrev pub clockwise : ℕ → ℕ → ℕ
+clockwise m peg = cond (eqb peg m) 0 (peg + 1)
+
+abbrev pub anticlockwise : ℕ → ℕ → ℕ
+anticlockwise m peg = cond (eqb peg 0) m (peg - 1)
+
+-- disk i + 1 goes on: odd disks clockwise, even ones the other way
+abbrev pub pegAfter : ℕ → ℕ → ℕ → ℕ
+pegAfter m i peg = cond (even (suc i)) (anticlockwise m peg) (clockwise m peg)
+
+-- the stored pegs after disk i + 1 has moved; for odd counts as they came
+abbrev pub pegsAfter : Towers → ℕ → List ℕ
+pegsAfter s i =
+    cond (allOdd (survey s)) (s .pegs) (set (s .pegs) i (pegAfter (common (survey s)) i (getD (s .pegs) i 0)))
+
+-- disk i + 1 moves, and its digit one notch in its direction, which turns if the digit is then at an end
+unfoldable pub moveOf : Towers → ℕ → Handed Towers Event
+moveOf s i = record {
+  state =
+      record {
+        radices = s .radices;
+        n = s .n;
+        word = wordMoved (s .word) (s .downs) i;
+        turn = turnAfter s;
+        downs = downsMoved (s .radices) (s .word) (s .downs) i;
+        pegs = pegsAfter s i;
+      };
+  answer = given (moved (record { digit = suc i; down = getD (s .downs) i false }));
+}
+
+-- where no disk can be chosen the walk has ended, and the state stays as it is, turn included
+abbrev pub moveBy : Towers → Option ℕ → Handed Towers Event
+moveBy s none = record { state = s; answer = given ended }
+moveBy s (some i) = moveOf s i
+
+unfoldable pub stepOf : Towers → Handed Towers Event
+stepOf s = cond (not (inRange s)) (refusedWith 7 s) (moveBy s (chosen s))

@@ -1,0 +1,67 @@
+-- Where the disks are, and which one a call moves (document 01, "The disk engine"; document 004, sections 7 and 8). The disk of
+-- digit i + 1 stands at index i; disk 1 is the smallest.
+use Prim.Native.Nat.{ℕ, zero, suc, _-_}
+use mathlib.Core.Bool.{Bool, cond, _&&_, _||_, not}
+use mathlib.Core.Option.{Option, none, some}
+use lib.Dec.{eqb, ltb}
+use lib.ListN.{getD}
+use Rattle.gray.specs.Directions.{allBelow}
+use Rattle.towers.specs.declared.Towers.{Towers}
+use Rattle.towers.specs.States.{allOdd, common, survey}
+
+-- ---- pegs
+-- the three pegs of odd counts
+abbrev pub left : ℕ
+left = 0
+
+abbrev pub middle : ℕ
+middle = 1
+
+abbrev pub right : ℕ
+right = 2
+
+-- for odd counts: a disk is on the left peg at notch 0, on the right at m − 1, else in the middle
+abbrev pub sidePeg : ℕ → ℕ → ℕ
+sidePeg m a = cond (eqb a 0) left (cond (eqb a (m - 1)) right middle)
+
+-- the peg of a disk: for odd counts it follows from the notch, for even ones it is stored
+unfoldable pub pegOf : Towers → ℕ → ℕ
+pegOf s i = cond (allOdd (survey s)) (sidePeg (getD (s .radices) i 0) (getD (s .word) i 0)) (getD (s .pegs) i 0)
+
+-- ---- the disk chosen
+-- the smallest of the disks 1 to n for which the test holds, if there is one: a smaller one if there is, else disk n itself
+abbrev pub orElse : Option ℕ → Option ℕ → Option ℕ
+orElse (some i) other = some i
+orElse none other = other
+
+unfoldable pub smallest : ℕ → (ℕ → Bool) → Option ℕ
+smallest zero test = none
+smallest (suc n) test = orElse (smallest n test) (cond (test n) (some n) none)
+
+-- odd counts: a peg is one of the two of the turn, left and middle or middle and right
+abbrev pub onPair : ℕ → ℕ → Bool
+onPair turn peg = cond (eqb turn 0) (eqb peg left || eqb peg middle) (eqb peg middle || eqb peg right)
+
+-- even counts: disk 1 moves m − 1 times in a sweep, and the turn counts these moves
+abbrev pub sweeping : ℕ → ℕ → Bool
+sweeping m turn = ltb turn (m - 1)
+
+-- a top disk: no smaller one is on its peg
+abbrev pub isTop : Towers → ℕ → Bool
+isTop s i = allBelow i (λ k. not (eqb (pegOf s k) (pegOf s i)))
+
+-- a disk on a peg that does not carry disk 1
+abbrev pub elsewhere : Towers → ℕ → Bool
+elsewhere s i = not (eqb (pegOf s i) (pegOf s 0))
+
+-- odd counts: the smallest disk on the two pegs of the turn
+abbrev pub chosenOnPair : Towers → Option ℕ
+chosenOnPair s = smallest (s .n) (λ i. onPair (s .turn) (pegOf s i))
+
+-- even counts: disk 1 in its sweep; after it the smallest top disk on the other pegs
+abbrev pub chosenOnRing : Towers → Option ℕ
+chosenOnRing s =
+    cond (sweeping (common (survey s)) (s .turn)) (some 0) (smallest (s .n) (λ i. isTop s i && elsewhere s i))
+
+unfoldable pub chosen : Towers → Option ℕ
+chosen s = cond (allOdd (survey s)) (chosenOnPair s) (chosenOnRing s)

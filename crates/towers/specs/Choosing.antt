@@ -1,0 +1,163 @@
+-- At rank r the disk that the ruler function names is chosen, and none at the last rank; its move leads to the state of the next
+-- rank and keeps to the rules of the game.
+use Prim.Native.Nat.{ℕ, zero, suc, _-_, _/_, _%_, _<_}
+use native.Mathlib.Omega.{arith}
+use mathlib.Core.Path.{_≡_, refl, sym, ap, ap₂, subst, _∙_}
+use mathlib.Core.Bool.{Bool, true, false, cond, _&&_, _||_, not}
+use mathlib.Core.List.{List, [], _∷_}
+use mathlib.Core.Option.{none, some}
+use borrow.Author.Tests.{eq-eqb, ne-eqb, lt-ltb, le-ltb}
+use lib.Dec.{eqb}
+use lib.ListN.{length, getD}
+use Rattle.gray.specs.Words.{even}
+use Rattle.gray.specs.Members.{wordAt}
+use Rattle.gray.specs.Changes.{ruler}
+use Rattle.gray.specs.Sizes.{radix-two}
+use Rattle.gray.specs.Increments.{Increment.no-carry, Increment.carry, increment}
+use Rattle.gray.specs.Rulers.{ruler-no-carry, ruler-carry, ruler-pos}
+use Rattle.towers.specs.States.{allOdd, common, survey}
+use Rattle.towers.specs.Choices.{left, middle, right, sidePeg, pegOf, smallest, onPair, sweeping, isTop, elsewhere, chosenOnPair, chosenOnRing, chosen}
+use Rattle.towers.specs.Openings.{Openable}
+use Rattle.towers.specs.Stacks.{Stacked}
+use Rattle.towers.specs.Pairs.{sideAt, leftOut, pairs-stacked}
+use Rattle.towers.specs.Rings.{pegsAt, ringAside, rings-stacked}
+use Rattle.towers.specs.Smallest.{smallest-some, smallest-none, smallest-same, smallest-elsewhere-is-top}
+use Rattle.towers.specs.Canonical.{Form, Form.pairs, Form.ring, form, towersAt, pegAt, survey-at, peg-at}
+
+-- the peg that the smaller disks have come to
+abbrev pub aside : List ℕ → ℕ → ℕ
+aside ms r = cond (allOdd ms) (leftOut r) (ringAside (common ms) r)
+
+-- both forms
+stacked-by : (ms : List ℕ) → Openable ms → (r : ℕ) → Form ms → Stacked ms (pegAt ms) r (aside ms r)
+unfolding pegAt
+stacked-by ms o r f =
+    let abbreviated : Bool → Type 0 = λ b.
+    Stacked ms (λ q k. cond b (sideAt ms q k) (getD (pegsAt false (common ms) (length ms) q) k 0)) r
+    (cond b (leftOut r) (ringAside (common ms) r)) in
+    elim f [
+      | pairs e odd ↦ subst abbreviated (sym e) (pairs-stacked ms (o .survey .two) odd r)
+      | ring e same ↦
+          subst abbreviated (sym e)
+          (subst
+          (λ (l : List ℕ). Stacked l (λ q k. getD (pegsAt false (common ms) (length ms) q) k 0) r (ringAside (common ms) r))
+          (sym same)
+          (rings-stacked (common ms) (length ms) r (radix-two ms 0 (o .survey .two) (o .survey .some))))
+    ]
+
+-- ---- the disk chosen
+-- a peg is of the turn exactly if it is not the one left out
+pair-test : (r p : ℕ) → p < 3 → onPair (r % 2) p ≡ not (eqb p (leftOut r))
+pair-test r p h = go (even r) p h
+  where
+    go : (b : Bool) (q : ℕ) → q < 3 → cond b (eqb q left || eqb q middle) (eqb q middle || eqb q right) ≡ not (eqb q (cond b right left))
+    go true zero l = refl
+    go true (suc zero) l = refl
+    go true (suc (suc zero)) l = refl
+    go true (suc (suc (suc q))) l = absurd (omega arith)
+    go false zero l = refl
+    go false (suc zero) l = refl
+    go false (suc (suc zero)) l = refl
+    go false (suc (suc (suc q))) l = absurd (omega arith)
+
+side-below : (m a : ℕ) → sidePeg m a < 3
+side-below m a = go (eqb a 0) (eqb a (m - 1))
+  where
+    go : (b c : Bool) → cond b left (cond c right middle) < 3
+    go true c = omega arith
+    go false true = omega arith
+    go false false = omega arith
+
+-- whether disk 1 is the one that the ruler function names
+first-named : (ms : List ℕ) (j b : ℕ) → 0 < length ms → j % common ms ≡ suc b → ruler ms j ≡ 1
+first-named [] j b h e = absurd (omega arith)
+first-named (m ∷ ms) j b h e = ruler-no-carry m ms j b e
+
+first-passed : (ms : List ℕ) (j : ℕ) → 0 < length ms → j % common ms ≡ 0 → 1 < ruler ms j
+first-passed [] j h e = absurd (omega arith)
+first-passed (m ∷ ms) j h e =
+    let r = ruler-carry m ms j e in
+    let p = ruler-pos ms (j / m) in
+    omega arith
+
+module _ (ms : List ℕ) (o : Openable ms) (r : ℕ) where
+  abbrev away : ℕ → Bool
+  away k = not (eqb (pegAt ms r k) (aside ms r))
+
+  pub stacked : Stacked ms (pegAt ms) r (aside ms r)
+  stacked = stacked-by ms o r (form ms o)
+
+  smallest-away : (i : ℕ) → ruler ms (suc r) ≡ suc i → i < length ms → smallest (length ms) away ≡ some i
+  smallest-away i e h =
+      let s = stacked in
+      smallest-some (length ms) away i h
+      (ap not (ne-eqb (pegAt ms r i) (aside ms r) (s .free i e h)))
+      (λ k l. ap not (eq-eqb (pegAt ms r k) (aside ms r) (s .covered k (omega arith) (omega arith))))
+
+  none-away : ruler ms (suc r) ≡ suc (length ms) → smallest (length ms) away ≡ none
+  none-away e =
+      let s = stacked in
+      smallest-none (length ms) away
+      (λ k l. ap not (eq-eqb (pegAt ms r k) (aside ms r) (s .covered k (omega arith) l)))
+
+  -- odd radices: the smallest disk on the pair of the turn
+  chosen-pair : allOdd ms ≡ true → chosen (towersAt ms r) ≡ smallest (length ms) away
+  unfolding chosen towersAt pegAt
+  chosen-pair e =
+      let s = towersAt ms r in
+      let odd-at : allOdd (survey s) ≡ true = ap allOdd (survey-at ms r) ∙ e in
+      let turn-is : s .turn ≡ r % 2 = rw e in
+      let aside-is : aside ms r ≡ leftOut r = rw e in
+      ap (λ b. cond b (smallest (s .n) (λ i. onPair (s .turn) (pegOf s i))) (chosenOnRing s)) odd-at
+      ∙ smallest-same (length ms) (λ i. onPair (s .turn) (pegOf s i)) away
+      (λ i h.
+      let side : pegAt ms r i ≡ sideAt ms r i = rw e in
+      let below = side-below (getD ms i 0) (getD (wordAt ms r) i 0) in
+      ap₂ onPair turn-is (peg-at ms r i h)
+      ∙ pair-test r (pegAt ms r i) (rw side below)
+      ∙ ap (λ (p : ℕ). not (eqb (pegAt ms r i) p)) (sym aside-is))
+
+  -- equal radices, after a sweep: the smallest disk that is not where disk 1 is
+  chosen-other : suc r % common ms ≡ 0 → smallest (length ms) (λ i. isTop (towersAt ms r) i && elsewhere (towersAt ms r) i) ≡ smallest (length ms) away
+  chosen-other z =
+      let s = towersAt ms r in
+      let passed = first-passed ms (suc r) (o .survey .some) z in
+      let there : pegOf s 0 ≡ aside ms r = peg-at ms r 0 (o .survey .some) ∙ stacked .covered 0 passed (o .survey .some) in
+      smallest-elsewhere-is-top (length ms) (pegOf s) (pegOf s 0)
+      ∙ smallest-same (length ms) (elsewhere s) away
+      (λ i h. ap₂ (λ (p q : ℕ). not (eqb p q)) (peg-at ms r i h) there)
+
+  chosen-ring : allOdd ms ≡ false → chosen (towersAt ms r) ≡ smallest (length ms) away
+  unfolding chosen towersAt
+  chosen-ring e =
+      let s = towersAt ms r in
+      let m = common ms in
+      let two = radix-two ms 0 (o .survey .two) (o .survey .some) in
+      let odd-at : allOdd (survey s) ≡ false = ap allOdd (survey-at ms r) ∙ e in
+      let turn-is : s .turn ≡ r % m = rw e in
+      let sweeps : sweeping (common (survey s)) (s .turn) ≡ sweeping m (r % m) =
+      ap₂ sweeping (ap common (survey-at ms r)) turn-is in
+      let others = smallest (s .n) (λ i. isTop s i && elsewhere s i) in
+      ap (λ b. cond b (chosenOnPair s) (chosenOnRing s)) odd-at
+      ∙ ap (λ b. cond b (some 0) others) sweeps
+      ∙ elim (increment m r (omega arith)) [
+        | no-carry q b below ↦
+            ap (λ t. cond t (some 0) others) (lt-ltb (r % m) (m - 1) (omega arith))
+            ∙ sym (smallest-away 0 (first-named ms (suc r) (r % m) (o .survey .some) b) (o .survey .some))
+        | carry q b whole ↦
+            ap (λ t. cond t (some 0) others) (le-ltb (r % m) (m - 1) (omega arith)) ∙ chosen-other b
+      ]
+
+  chosen-by : Form ms → chosen (towersAt ms r) ≡ smallest (length ms) away
+  chosen-by (pairs e odd) = chosen-pair e
+  chosen-by (ring e same) = chosen-ring e
+
+  chosen-is : chosen (towersAt ms r) ≡ smallest (length ms) away
+  chosen-is = chosen-by (form ms o)
+
+  -- the disk that the ruler function names is chosen, none where it names none
+  pub chooses : (i : ℕ) → ruler ms (suc r) ≡ suc i → i < length ms → chosen (towersAt ms r) ≡ some i
+  chooses i e h = chosen-is ∙ smallest-away i e h
+
+  pub chooses-none : ruler ms (suc r) ≡ suc (length ms) → chosen (towersAt ms r) ≡ none
+  chooses-none e = chosen-is ∙ none-away e

@@ -1,0 +1,44 @@
+-- What the disk engine promises of the whole run of calls from a state. The theorem that every fresh start keeps it stands in
+-- Walks.
+use Prim.Native.Nat.{ℕ, suc, _-_, _≤_, _<_}
+use mathlib.Core.Path.{_≡_}
+use mathlib.Core.Bool.{Bool, true}
+use mathlib.Core.List.{List}
+use Rattle.gray.specs.Answers.{Answer, given}
+use Rattle.gray.specs.Radices.{size}
+use Rattle.gray.specs.Words.{member}
+use Rattle.gray.specs.Engines.{Event, moved, ended, after, answerOf, Names}
+use Rattle.towers.specs.declared.Towers.{Towers}
+use Rattle.towers.specs.States.{setting, inRange}
+use Rattle.towers.specs.Choices.{pegOf}
+use Rattle.towers.specs.Calls.{stepOf}
+
+-- the state after t calls
+abbrev pub state : Towers → ℕ → Towers
+state s t = after stepOf s t
+
+-- what call j answers, for j from 1
+abbrev pub answer : Towers → ℕ → Answer Event
+answer s j = answerOf stepOf s j
+
+-- call j answers end and hands the state back as it came, turn included
+pub record Ends (s : Towers) (j : ℕ) : Type 0 where
+  pub answers : answer s j ≡ given ended
+  pub unchanged : state s j ≡ state s (j - 1)
+
+-- call j moves disk i + 1 by the rules of the game: no smaller disk is on the peg that it leaves, nor on the one that it is put on
+pub record Allowed (s : Towers) (j i : ℕ) : Type 0 where
+  pub top : (k : ℕ) → k < i → pegOf (state s (j - 1)) k ≡ pegOf (state s (j - 1)) i → ⊥
+  pub lands : (k : ℕ) → k < i → pegOf (state s j) k ≡ pegOf (state s j) i → ⊥
+
+-- the walk starts at the setting of rank 0; calls 1 to N − 1 name changes 1 to N − 1, each with the setting of its rank; call N
+-- and every later one end; every state is in range; and every call that moves a disk keeps to the rules
+pub record WalksTheList (ms : List ℕ) (s : Towers) : Type 0 where
+  pub start : setting s ≡ member ms 0
+  pub moves : (j : ℕ) → 1 ≤ j → j < size ms → Names stepOf setting ms s j
+  pub end : (j : ℕ) → size ms ≤ j → Ends s j
+  pub in-range : (t : ℕ) → inRange (state s t) ≡ true
+  pub rules : (j i : ℕ) (down : Bool)
+      → 1 ≤ j
+      → answer s j ≡ given (moved (record { digit = suc i; down = down }))
+      → Allowed s j i

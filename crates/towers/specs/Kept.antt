@@ -1,0 +1,185 @@
+-- The range rule is kept by every call, also from a made-up state; for odd radices the stored pegs play no part; and a closed game
+-- gets 7.
+use Prim.Native.Nat.{ℕ, suc, _+_, _-_, _≤_, _<_}
+use native.Mathlib.Decide.{decLt, ℕ-discrete}
+use native.Mathlib.Omega.{arith}
+use mathlib.Core.Path.{_≡_, refl, ap, _∙_}
+use mathlib.Core.Bool.{Bool, true, false, cond, _&&_, not}
+use mathlib.Core.List.{List}
+use mathlib.Core.Option.{Option, none, some, Option·some-injective}
+use borrow.Author.Tests.{eq-eqb, ne-eqb, lt-ltb, le-ltb}
+use lib.ListN.{length, getD, set, length-set}
+use lib.Seq.{getD-set-same, getD-set-other, getD-take}
+use Rattle.gray.specs.Words.{even}
+use Rattle.gray.specs.Sizes.{radix-two}
+use Rattle.gray.specs.DigitRanges.{digits-move-in-range}
+use Rattle.gray.specs.Engines.{Event, Handed, refusedWith}
+use Rattle.towers.specs.declared.Towers.{Towers}
+use Rattle.towers.specs.States.{allOdd, common, survey, inRange}
+use Rattle.towers.specs.Choices.{pegOf, smallest, onPair, sweeping, isTop, elsewhere, chosenOnPair, chosenOnRing, chosen}
+use Rattle.towers.specs.Calls.{fresh, closedTowers, clockwise, anticlockwise, pegAfter, pegsAfter, moveOf, moveBy, stepOf}
+use Rattle.towers.specs.Smallest.{smallest-says}
+use Rattle.towers.specs.Openings.{Openable}
+use Rattle.towers.specs.InRange.{Arrays, RangeSays, range-says, says-range, survey-openable, survey-long}
+
+-- ---- what a move leaves in range
+turn-kept : (odd : Bool) (m turn : ℕ)
+    → 2 ≤ m
+    → turn < cond odd 2 m
+    → cond odd (1 - turn) (cond (sweeping m turn) (turn + 1) 0) < cond odd 2 m
+turn-kept true m turn two h = omega arith
+turn-kept false m turn two h =
+    elim (decLt turn (m - 1)) [
+      | yes p ↦ rw (lt-ltb turn (m - 1) p) (omega arith)
+      | no q ↦ rw (le-ltb turn (m - 1) (omega arith)) (omega arith)
+    ]
+
+clockwise-kept : (m p : ℕ) → p ≤ m → clockwise m p ≤ m
+clockwise-kept m p h =
+    elim (ℕ-discrete p m) [ yes e ↦ rw (eq-eqb p m e) (omega arith) | no n ↦ rw (ne-eqb p m n) (omega arith) ]
+
+anticlockwise-kept : (m p : ℕ) → p ≤ m → anticlockwise m p ≤ m
+anticlockwise-kept m p h =
+    elim (ℕ-discrete p 0) [ yes e ↦ rw (eq-eqb p 0 e) (omega arith) | no n ↦ rw (ne-eqb p 0 n) (omega arith) ]
+
+peg-kept : (m i p : ℕ) → p ≤ m → pegAfter m i p ≤ m
+peg-kept m i p h = go (even (suc i))
+  where
+    go : (b : Bool) → cond b (anticlockwise m p) (clockwise m p) ≤ m
+    go true = anticlockwise-kept m p h
+    go false = clockwise-kept m p h
+
+set-kept : (l : List ℕ) (i a m k : ℕ) → k < length l → a ≤ m → getD l k 0 ≤ m → getD (set l i a) k 0 ≤ m
+set-kept l i a m k h new old =
+    elim (ℕ-discrete k i) [
+      | yes e ↦ rw (e, getD-set-same l i a 0 (omega arith)) new
+      | no n ↦ rw (getD-set-other l i k a 0 n) old
+    ]
+
+module _ (s : Towers) (a : Arrays s) (ranged : inRange s ≡ true) where
+  says : RangeSays s
+  says = range-says s ranged
+
+  open-survey : Openable (survey s)
+  open-survey = survey-openable s says
+
+  long : length (survey s) ≡ s .n
+  long = survey-long s says (a .radices)
+
+  -- the disk chosen is one of the n
+  on-ring : (b : Bool) (i : ℕ)
+      → cond b (some 0) (smallest (s .n) (λ k. isTop s k && elsewhere s k)) ≡ some i
+      → i < s .n
+  on-ring true i e = let z : 0 ≡ i = Option·some-injective 0 i e in let o = open-survey .survey .some in let l = long in omega arith
+  on-ring false i e = smallest-says (s .n) (λ k. isTop s k && elsewhere s k) i e .within
+
+  pub chosen-within : (i : ℕ) → chosen s ≡ some i → i < s .n
+  unfolding chosen
+  chosen-within i e = go (allOdd (survey s)) e
+    where
+      go : (b : Bool) → cond b (chosenOnPair s) (chosenOnRing s) ≡ some i → i < s .n
+      go true f = smallest-says (s .n) (λ k. onPair (s .turn) (pegOf s k)) i f .within
+      go false f = on-ring (sweeping (common (survey s)) (s .turn)) i f
+
+  common-two : 2 ≤ common (survey s)
+  common-two = radix-two (survey s) 0 (open-survey .survey .two) (open-survey .survey .some)
+
+  pegs-kept : (i : ℕ)
+      → i < s .n
+      → allOdd (survey s) ≡ false
+      → (k : ℕ)
+      → k < length (survey s)
+      → getD (pegsAfter s i) k 0 ≤ common (survey s)
+  pegs-kept i in-game e k h =
+      let l = long in
+      let most = says .most in
+      let m = common (survey s) in
+      let p = getD (s .pegs) i 0 in
+      rw e
+      (set-kept (s .pegs) i (pegAfter m i p) m k (omega arith) (peg-kept m i p (says .within e i (omega arith))) (says .within e k h))
+
+  move-kept : (i : ℕ) → i < s .n → inRange (moveOf s i .state) ≡ true
+  unfolding moveOf
+  move-kept i h =
+      let l = long in
+      let most = says .most in
+      let two = radix-two (survey s) i (open-survey .survey .two) (omega arith) in
+      let same = getD-take (s .n) (s .radices) i 0 h in
+      says-range (moveOf s i .state)
+      (record {
+        most = says .most;
+        opens = says .opens;
+        notches =
+            digits-move-in-range (s .n) (s .radices) (s .word) (s .downs) i h (omega arith) (omega arith) (omega arith) (says .notches);
+        turns = turn-kept (allOdd (survey s)) (common (survey s)) (s .turn) common-two (says .turns);
+        within = pegs-kept i h;
+      })
+
+  -- every call on a state in range hands one back
+  pub range-kept : inRange (stepOf s .state) ≡ true
+  unfolding stepOf
+  range-kept = ap (λ b. inRange (cond (not b) (refusedWith 7 s) (moveBy s (chosen s)) .state)) ranged ∙ go (chosen s) refl
+    where
+      go : (c : Option ℕ) → chosen s ≡ c → inRange (moveBy s c .state) ≡ true
+      go none e = ranged
+      go (some i) e = move-kept i (chosen-within i e)
+
+  -- and its arrays keep their lengths
+  length-pegs : (i : ℕ) → length (pegsAfter s i) ≡ 48
+  length-pegs i = go (allOdd (survey s))
+    where
+      go : (b : Bool) → length (cond b (s .pegs) (set (s .pegs) i (pegAfter (common (survey s)) i (getD (s .pegs) i 0)))) ≡ 48
+      go true = a .pegs
+      go false = length-set (s .pegs) i (pegAfter (common (survey s)) i (getD (s .pegs) i 0)) ∙ a .pegs
+
+  pub arrays-kept : Arrays (stepOf s .state)
+  unfolding stepOf moveOf
+  arrays-kept = rw ranged (go (chosen s))
+    where
+      go : (c : Option ℕ) → Arrays (moveBy s c .state)
+      go none = a
+      go (some i) =
+          record { radices = a .radices; word = simp length-set (a .word); downs = simp length-set (a .downs); pegs = length-pegs i }
+
+-- for odd radices a call on other pegs does the same, and hands them back as they came
+abbrev pub withPegs : List ℕ → Towers → Towers
+withPegs pegs s = record {
+  radices = s .radices;
+  n = s .n;
+  word = s .word;
+  turn = s .turn;
+  downs = s .downs;
+  pegs = pegs;
+}
+
+module _ (s : Towers) (pegs : List ℕ) (e : allOdd (survey s) ≡ true) where
+  range-same : inRange (withPegs pegs s) ≡ inRange s
+  unfolding inRange
+  range-same = rw e
+
+  chosen-same : chosen (withPegs pegs s) ≡ chosen s
+  unfolding chosen pegOf
+  chosen-same = rw e
+
+  abbrev otherwise : Handed Towers Event → Handed Towers Event
+  otherwise h = record { state = withPegs pegs (h .state); answer = h .answer }
+
+  move-same : (c : Option ℕ) → moveBy (withPegs pegs s) c ≡ otherwise (moveBy s c)
+  unfolding moveOf
+  move-same none = refl
+  move-same (some i) = rw e
+
+  pub odd-ignores-pegs : stepOf (withPegs pegs s) ≡ record { state = withPegs pegs (stepOf s .state); answer = stepOf s .answer }
+  unfolding stepOf
+  odd-ignores-pegs = rw (range-same, chosen-same) (go (inRange s))
+    where
+      go : (b : Bool)
+          → cond (not b) (refusedWith 7 (withPegs pegs s)) (moveBy (withPegs pegs s) (chosen s))
+          ≡ otherwise (cond (not b) (refusedWith 7 s) (moveBy s (chosen s)))
+      go true = move-same (chosen s)
+      go false = refl
+
+-- a closed game has no survey: every call on it gets 7
+pub closed-gets-7 : stepOf closedTowers ≡ refusedWith 7 closedTowers
+unfolding stepOf inRange fresh
+closed-gets-7 = refl

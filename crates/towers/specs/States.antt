@@ -1,0 +1,57 @@
+-- The state of the disk engine and when it is in range (document 01, "The disk engine"). Its arrays have digit 1 first, and room
+-- for 48 digits; what they hold past digit n plays no part.
+use Prim.Native.Nat.{ℕ}
+use mathlib.Core.Bool.{Bool, cond, _&&_, _||_, not}
+use mathlib.Core.List.{List}
+use lib.Dec.{eqb, ltb, leb}
+use lib.ListN.{length, getD, take}
+use Rattle.gray.specs.Answers.{Answer, given, isGiven, refusing}
+use Rattle.gray.specs.Radices.{ofRadices}
+use Rattle.gray.specs.Words.{even}
+use Rattle.gray.specs.Directions.{allBelow, digitsInRange}
+use Rattle.towers.specs.declared.Towers.{Towers}
+
+-- ---- the survey
+unfoldable pub allOdd : List ℕ → Bool
+allOdd ms = allBelow (length ms) (λ i. not (even (getD ms i 0)))
+
+-- the radix of digit 1. Where all are equal it is document 01's m, and the ring has m + 1 pegs
+abbrev pub common : List ℕ → ℕ
+common ms = getD ms 0 0
+
+unfoldable pub allEvenAndEqual : List ℕ → Bool
+allEvenAndEqual ms = allBelow (length ms) (λ i. even (getD ms i 0) && eqb (getD ms i 0) (common ms))
+
+-- refusal 6: the counts are neither all odd nor all even and equal
+abbrev pub wrongCounts : List ℕ → Bool
+wrongCounts ms = not (allOdd ms || allEvenAndEqual ms)
+
+-- the checks of an opening: refusals 2, 3, 4 of the survey, then 6
+abbrev pub openCheck : List ℕ → Answer Unit
+openCheck ms = ofRadices ms (refusing 6 (wrongCounts ms) (given tt))
+
+-- the survey and the setting that a state holds
+abbrev pub survey : Towers → List ℕ
+survey s = take (s .n) (s .radices)
+
+abbrev pub setting : Towers → List ℕ
+setting s = take (s .n) (s .word)
+
+-- ---- the range
+-- the turn is 0 or 1 for odd counts, 0 to m − 1 for even ones
+abbrev pub turnInRange : List ℕ → ℕ → Bool
+turnInRange ms turn = ltb turn (cond (allOdd ms) 2 (common ms))
+
+-- for even counts each disk's peg lies within 0 to m; for odd ones the pegs of the array play no part
+abbrev pub pegsInRange : List ℕ → List ℕ → Bool
+pegsInRange ms pegs = allOdd ms || allBelow (length ms) (λ i. leb (getD pegs i 0) (common ms))
+
+-- document 01: the disk engine could be opened on the survey, setting and directions are as in the buffered engine, and turn and
+-- pegs lie within their bounds. (A state has no room for more than 48 digits, whatever its n.)
+unfoldable pub inRange : Towers → Bool
+inRange s =
+    leb (s .n) 48
+    && isGiven (openCheck (survey s))
+    && digitsInRange (s .n) (s .radices) (s .word) (s .downs)
+    && turnInRange (survey s) (s .turn)
+    && pegsInRange (survey s) (s .pegs)

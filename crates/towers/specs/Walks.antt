@@ -1,0 +1,155 @@
+-- The disk engine walks the list: the theorem about the whole run of calls from a fresh start. What it claims stands in Game, what
+-- a call is in Calls: the definitions that the contracts of `open` and `step` cite.
+use Prim.Native.Nat.{ℕ, zero, suc, _+_, _-_, _≤_, _<_}
+use native.Mathlib.Decide.{decLt}
+use native.Mathlib.Omega.{arith}
+use mathlib.Core.Path.{_≡_, sym, ap, subst, _∙_}
+use mathlib.Core.Bool.{Bool, true}
+use mathlib.Core.List.{List}
+use lib.ListN.{length}
+use Rattle.gray.specs.Answers.{Answer, given, refused}
+use Rattle.gray.specs.Radices.{digits, size}
+use Rattle.gray.specs.Members.{member-is-wordAt}
+use Rattle.gray.specs.Changes.{change}
+use Rattle.gray.specs.Rulers.{change-is-ruler}
+use Rattle.gray.specs.Sizes.{size-pos, allFrom-weaker}
+use Rattle.gray.specs.Turns.{Advances, walk-advances}
+use Rattle.gray.specs.Engines.{Event, moved, ended, after, Names}
+use Rattle.towers.specs.declared.Towers.{Towers}
+use Rattle.towers.specs.States.{setting, inRange}
+use Rattle.towers.specs.Choices.{pegOf}
+use Rattle.towers.specs.Calls.{fresh, openOf, stepOf}
+use Rattle.towers.specs.Openings.{Openable, opens-exactly, opens-fresh}
+use Rattle.towers.specs.Game.{state, answer, Ends, Allowed, WalksTheList}
+use Rattle.towers.specs.Canonical.{towersAt, pegAt, setting-at, peg-at, fresh-is, towers-in-range}
+use Rattle.towers.specs.Choosing.{stacked}
+use Rattle.towers.specs.Moving.{rests, move-call, end-call}
+
+-- the digit that an answer names, 0 where it names none
+abbrev digitOf : Answer Event → ℕ
+digitOf (given (moved c)) = c .digit
+digitOf (given ended) = 0
+digitOf (refused k) = 0
+
+module _ (ms : List ℕ) (o : Openable ms) where
+  abbrev start : Towers
+  start = fresh ms
+
+  some-word : 0 < size ms
+  some-word = size-pos ms (allFrom-weaker 2 1 ms (omega arith) (o .survey .two))
+
+  -- the state after t calls, t below N, is that of rank t
+  run-to : (t : ℕ) → t < size ms → state start t ≡ towersAt ms t
+  unfolding after
+  run-to zero h = fresh-is ms o
+  run-to (suc t) h =
+      ap (λ (s : Towers). stepOf s .state) (run-to t (omega arith)) ∙ ap (λ c. c .state) (move-call ms o t h)
+
+  -- from call N on nothing changes
+  abbrev last : ℕ
+  last = size ms - 1
+
+  last-rank : suc last ≡ size ms
+  last-rank = let pos = some-word in omega arith
+
+  run-on : (x : ℕ) → state start (last + x) ≡ towersAt ms last
+  unfolding after
+  run-on zero = let z : last + 0 ≡ last = omega arith in let l = last-rank in rw z (run-to last (omega arith))
+  run-on (suc x) =
+      let z : last + suc x ≡ suc (last + x) = omega arith in
+      rw z (ap (λ (s : Towers). stepOf s .state) (run-on x) ∙ ap (λ c. c .state) (end-call ms o last last-rank))
+
+  run-past : (t : ℕ) → last ≤ t → state start t ≡ towersAt ms last
+  run-past t h = let z : last + (t - last) ≡ t = omega arith in subst (λ (k : ℕ). state start k ≡ towersAt ms last) z (run-on (t - last))
+
+  in-range : (t : ℕ) → inRange (state start t) ≡ true
+  in-range t =
+      elim (decLt t (size ms)) [
+        | yes p ↦ ap inRange (run-to t p) ∙ towers-in-range ms o t
+        | no q ↦ ap inRange (run-past t (omega arith)) ∙ towers-in-range ms o last
+      ]
+
+  -- call t + 1 is made on the state after t calls
+  answered : (t : ℕ) → answer start (suc t) ≡ stepOf (state start t) .answer
+  answered t = let z : suc t - 1 ≡ t = omega arith in ap (λ (k : ℕ). stepOf (state start k) .answer) z
+
+  answers-change : (t : ℕ) → suc t < size ms → answer start (suc t) ≡ given (moved (change ms (suc t)))
+  answers-change t h =
+      answered t
+      ∙ ap (λ (s : Towers). stepOf s .answer) (run-to t (omega arith))
+      ∙ ap (λ c. c .answer) (move-call ms o t h)
+
+  names : (j : ℕ) → 1 ≤ j → j < size ms → Names stepOf setting ms start j
+  names zero h l = absurd (omega arith)
+  names (suc t) h l =
+      record {
+        answers = answers-change t l;
+        hands-back = ap setting (run-to (suc t) l) ∙ setting-at ms (suc t) ∙ sym (member-is-wordAt ms (suc t) l);
+      }
+
+  ends : (j : ℕ) → size ms ≤ j → Ends start j
+  ends j h =
+      let before = run-past (j - 1) (omega arith) in
+      record {
+        answers = ap (λ (s : Towers). stepOf s .answer) before ∙ ap (λ c. c .answer) (end-call ms o last last-rank);
+        unchanged = run-past j (omega arith) ∙ sym before;
+      }
+
+  -- the rules: smaller disks are all aside, where the disk that moves neither is nor goes
+  pegs-of : (t k : ℕ) → t < size ms → k < length ms → pegOf (state start t) k ≡ pegAt ms t k
+  pegs-of t k h l = ap (λ (s : Towers). pegOf s k) (run-to t h) ∙ peg-at ms t k l
+
+  keeps-rules : (t i : ℕ) → suc t < size ms → Advances ms t i → Allowed start (suc t) i
+  keeps-rules t i h a =
+      let s = stacked ms o t in
+      let within = a .within in
+      let named = a .digit in
+      let z : suc t - 1 ≡ t = omega arith in
+      record {
+        top = subst (λ (q : ℕ). (k : ℕ) → k < i → pegOf (state start q) k ≡ pegOf (state start q) i → ⊥) (sym z)
+            (λ k l e.
+            s .free i named within
+            (sym (pegs-of t i (omega arith) within) ∙ sym e ∙ pegs-of t k (omega arith) (omega arith) ∙ s .covered k (omega arith) (omega arith)));
+        lands = λ k l e.
+            s .lands i named within
+            (sym (pegs-of (suc t) i h within)
+            ∙ sym e
+            ∙ pegs-of (suc t) k h (omega arith)
+            ∙ rests ms o t i k a (λ q. omega arith)
+            ∙ s .covered k (omega arith) (omega arith));
+      }
+
+  allowed : (j i : ℕ) (down : Bool)
+      → 1 ≤ j
+      → answer start j ≡ given (moved (record { digit = suc i; down = down }))
+      → Allowed start j i
+  allowed zero i down h e = absurd (omega arith)
+  allowed (suc t) i down h e =
+      elim (decLt (suc t) (size ms)) [
+        | yes p ↦
+            let (k, a) = walk-advances ms (o .survey .two) t p in
+            let named : suc k ≡ suc i =
+            sym (a .digit) ∙ sym (ap (λ c. c .digit) (change-is-ruler ms t p .0)) ∙ ap digitOf (sym (answers-change t p) ∙ e) in
+            let same : k ≡ i = omega arith in
+            subst (Allowed start (suc t)) same (keeps-rules t k p a)
+        | no q ↦ let none : 0 ≡ suc i = ap digitOf (sym (ends (suc t) (omega arith) .answers) ∙ e) in absurd (omega arith)
+      ]
+
+  run-walks : WalksTheList ms start
+  run-walks =
+      record {
+        start = ap setting (fresh-is ms o) ∙ setting-at ms 0 ∙ sym (member-is-wordAt ms 0 some-word);
+        moves = names;
+        end = ends;
+        in-range = in-range;
+        rules = allowed;
+      }
+
+-- Whatever state it was opened on, the disk engine walks the list: from the setting of rank 0 calls 1 to N − 1 name the list's
+-- changes in order, each with the setting that it leads to; call N and every later one answer end and change nothing; every state
+-- is in range; and no disk is ever put on a peg that holds a smaller one.
+pub disks-walk-the-list : (s : Towers) (radices : List ℕ)
+    → openOf s radices .answer ≡ given tt
+    → WalksTheList (digits radices) (openOf s radices .state)
+disks-walk-the-list s radices e =
+    subst (WalksTheList (digits radices)) (sym (opens-fresh s radices e)) (run-walks (digits radices) (opens-exactly s radices .0 e))
