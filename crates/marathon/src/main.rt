@@ -1,18 +1,20 @@
-// Walks a survey from its first setting to its end by the buffered engine, with half of n places rounded up, and prints the
-// number of moves and the last setting. Input is one line: notch counts up to 255, sluice n first, with a space after each but
-// the last, which a newline follows. Any other text prints `unread`, a refused survey its number.
+// Walks a survey from its first setting to its end, by the buffered engine with half of n places rounded up and then by the disk
+// engine, and prints for each the number of moves and the last setting, or its refusal. Input is one line: notch counts up to
+// 255, sluice n first, with a space after each but the last, which a newline follows. Any other text prints `unread`, a refused
+// survey its number.
 
 use ahead::Walk;
 use gray::Counted;
 use gray::Opening;
 use gray::Stepping;
+use towers::Towers;
 ghost use Prim.Native.Nat.{_≤_};
 ghost use lib.ListN.{length};
 ghost use Rattle.io.specs.Counts.{Counts};
 
-// How a walk came out: the state, the moves made, and the answer that ended it.
+// How a walk came out: the last setting, the moves made, and the answer that ended it.
 struct Finish {
-    walk: Walk,
+    word: [u8; 48],
     moves: u64,
     answer: Stepping,
 }
@@ -73,17 +75,26 @@ fn read_line(text: &[u8], counts: &mut [u8]) -> usize
     0
 }
 
-// Calls are made until one does not move, N at the most.
-fn run(walk: Walk, total: u64) -> Finish {
-    let mut now = walk;
+// Calls of the one engine or the other are made until one does not move, N at the most.
+fn run(walk: Walk, towers: Towers, disks: bool, total: u64) -> Finish {
+    let mut ahead = walk;
+    let mut pegs = towers;
+    let mut answer = Stepping::End;
     let mut moves: u64 = 0;
     while moves < total {
-        let stepped = now.step();
-        now = stepped.walk;
-        let answer = stepped.answer;
+        if disks {
+            let stepped = pegs.step();
+            pegs = stepped.towers;
+            answer = stepped.answer;
+        } else {
+            let stepped = ahead.step();
+            ahead = stepped.walk;
+            answer = stepped.answer;
+        }
         let Stepping::Moved(_, _) = answer else {
+            let word = if disks { pegs.word } else { ahead.word };
             return Finish {
-                walk: now,
+                word: word,
                 moves: moves,
                 answer: answer,
             };
@@ -91,7 +102,7 @@ fn run(walk: Walk, total: u64) -> Finish {
         moves += 1;
     }
     Finish {
-        walk: now,
+        word: [0; 48],
         moves: moves,
         answer: Stepping::Refused(0),
     }
@@ -131,25 +142,39 @@ fn print_finish(n: usize, finish: Finish)
     }
     print(b"moves ");
     print_number(finish.moves);
-    print(b"\nlast ");
-    let walk = finish.walk;
-    let word = walk.word;
+    print(b" last ");
+    let word = finish.word;
     print_word(word, n);
     print(b"\n");
 }
 
-// The walk of an accepted survey: `total` is N.
-fn walk_accepted(radices: &[u8], total: u64)
+// The two walks of a survey: `total` is N.
+fn walk_ahead(radices: &[u8], total: u64)
     requires { ⌜ length (now radices) ≤ 48 ⌝ }
 {
     let n = radices.len();
+    print(b"buffer ");
     let opened = Walk::closed().open(radices, (n + 1) / 2);
     let answer = opened.answer;
     if let Opening::Refused(k) = answer {
         print_refused(k);
         return;
     }
-    print_finish(n, run(opened.walk, total));
+    print_finish(n, run(opened.walk, Towers::closed(), false, total));
+}
+
+fn walk_disks(radices: &[u8], total: u64)
+    requires { ⌜ length (now radices) ≤ 48 ⌝ }
+{
+    let n = radices.len();
+    print(b"disks ");
+    let opened = Towers::closed().open(radices);
+    let answer = opened.answer;
+    if let Opening::Refused(k) = answer {
+        print_refused(k);
+        return;
+    }
+    print_finish(n, run(Walk::closed(), opened.towers, true, total));
 }
 
 fn walk_all(radices: &[u8]) {
@@ -158,7 +183,8 @@ fn walk_all(radices: &[u8]) {
         print_refused(counted.number());
         return;
     };
-    walk_accepted(radices, total);
+    walk_ahead(radices, total);
+    walk_disks(radices, total);
 }
 
 fn main() {

@@ -13,12 +13,16 @@ use Rattle.gray.specs.Changes.{Change, difference, change, ruler}
 use Rattle.gray.specs.Costs.{wholeParts, cost}
 use Rattle.gray.specs.Calls.{sizeCall, rankCall}
 use Rattle.gray.specs.Directions.{allBelow}
-use Rattle.gray.specs.Engines.{Event, moved, ended, after}
+use Rattle.gray.specs.Engines.{Event, moved, ended, after, answerOf}
 use Rattle.ahead.specs.declared.Walk.{Walk}
 use Rattle.ahead.specs.States.{setting, producerInRange, inRange}
 use Rattle.ahead.specs.Work.{Work, carry, append, idle, kind, done}
 use Rattle.ahead.specs.Calls.{fresh, closedWalk, openOf, twice, course, dequeued, endOf, moveOf, stepOf}
 use Rattle.ahead.specs.Runs.{state, answer, events as eventsOf}
+use Rattle.towers.specs.declared.Towers.{Towers}
+use Rattle.towers.specs.States.{allOdd, allEvenAndEqual, setting as diskSetting, inRange as disksInRange}
+use Rattle.towers.specs.Choices.{pegOf, smallest, chosen}
+use Rattle.towers.specs.Calls.{closedTowers, fresh as freshDisks, openOf as openDisks, moveOf as moveDisk, stepOf as stepDisks}
 use Rattle.starred.specs.Same.{Test, numbers, changes, events, units, lists, answers}
 
 -- a row: what the definitions give, and what document 01 says it is
@@ -68,6 +72,13 @@ stepsAfter w j = state w j .producer .steps
 
 abbrev settingAfter : Walk → ℕ → List ℕ
 settingAfter w j = bytes (setting (state w j))
+
+-- the disk engine in the same way, and its setting after call j
+abbrev disks : List ℕ → Towers
+disks radices = openDisks closedTowers radices .state
+
+abbrev diskSettingAfter : Towers → ℕ → List ℕ
+diskSettingAfter s j = bytes (diskSetting (after stepDisks s j))
 
 -- the useful step, counted on from u, that appends the entry with j others before it
 abbrev finishedAt : ℕ → ℕ → List Work → ℕ
@@ -124,6 +135,17 @@ table =
     ∷ row (answers units) (openOf closedWalk (replicate 48 2) 32 .answer) (given tt)
     ∷ row (answers units) (openOf closedWalk (replicate 48 2) 33 .answer) (refused 5)
     ∷ row (answers units) (openOf closedWalk (replicate 48 2) 0 .answer) (refused 5)
+    -- disks on counts 2, 4 and on 3, 5
+    ∷ row (answers units) (openDisks closedTowers (2 ∷ 4 ∷ []) .answer) (refused 6)
+    ∷ row (answers units) (openDisks closedTowers (3 ∷ 5 ∷ []) .answer) (given tt)
+    -- besides: on odd and even counts, and on equal even ones
+    ∷ row (answers units) (openDisks closedTowers (3 ∷ 4 ∷ []) .answer) (refused 6)
+    ∷ row (answers units) (openDisks closedTowers (4 ∷ 4 ∷ []) .answer) (given tt)
+    -- on 3, 5 to the end: the settings are the list
+    ∷ row (lists (lists numbers)) (map (diskSettingAfter (disks (3 ∷ 5 ∷ []))) (upward 15)) (wordsOf (3 ∷ 5 ∷ []))
+    -- three of 2: the answers, the end and the call after it
+    ∷ row (lists (answers events)) (map (answerOf stepDisks (disks (replicate 3 2))) (1 ∷ 2 ∷ 3 ∷ 4 ∷ 5 ∷ 6 ∷ 7 ∷ 8 ∷ 9 ∷ []))
+    (names (up 1) ∷ names (up 2) ∷ names (down 1) ∷ names (up 3) ∷ names (up 1) ∷ names (down 2) ∷ names (down 1) ∷ end ∷ end ∷ [])
     ∷ []
 
 passes : List Row → Bool
@@ -137,7 +159,7 @@ each (r ∷ rs) e zero h = r .test .shows (r .computed) (r .said) (and-eq-true-i
 each (r ∷ rs) e (suc i) h = each rs (and-eq-true-iff (r .test .same (r .computed) (r .said)) (passes rs) .0 e .1) i (omega arith)
 
 tested : passes table ≡ true
-unfolding passes table sizeCall rankCall size allFrom upward downward notches through list isWord rank difference ruler wholeParts allBelow after producerInRange inRange kind done fresh openOf course dequeued endOf moveOf stepOf eventsOf
+unfolding passes table sizeCall rankCall size allFrom upward downward notches through list isWord rank difference ruler wholeParts allBelow after producerInRange inRange kind done fresh openOf course dequeued endOf moveOf stepOf eventsOf allOdd allEvenAndEqual disksInRange pegOf smallest chosen freshDisks openDisks moveDisk stepDisks
 tested = refl
 
 -- every row of the table holds

@@ -47,8 +47,8 @@ module _ (s : Towers) (long : Arrays s) (ranged : inRange s ≡ true) where
   pub first-disk : 0 < s .n
   first-disk = disk-one s (long .radices) (says .most) opened
 
-  pub first-pos : 0 < m
-  first-pos = let two = radix-least s (long .radices) (says .most) opened 0 first-disk in omega arith
+  pub first-two : 2 ≤ m
+  first-two = radix-least s (long .radices) (says .most) opened 0 first-disk
 
   -- ---- choose
   peg-by : (odd : Bool)

@@ -17,7 +17,7 @@ use Rattle.gray.specs.Sizes.{radix-two}
 use Rattle.gray.specs.WalkArrays.{wordArray, downArray, take-word-array, word-array-start, down-array-start, arrays-in-range}
 use Rattle.gray.specs.Filled.{take-filled, getD-filled, filled-replicate}
 use Rattle.towers.specs.declared.Towers.{Towers}
-use Rattle.towers.specs.States.{allOdd, common, allEvenAndEqual, survey, setting, inRange}
+use Rattle.towers.specs.States.{allOdd, common, evenAndEqual, allEvenAndEqual, survey, setting, inRange}
 use Rattle.towers.specs.Calls.{fresh}
 use Rattle.towers.specs.Choices.{pegOf}
 use Rattle.towers.specs.Openings.{Openable, opens}
@@ -46,7 +46,7 @@ form ms o = go (allOdd ms) refl
     go true e = pairs e (λ i h. odd-says (getD ms i 0) (allBelow-each (length ms) (λ k. not (even (getD ms k 0))) e i h))
     go false e =
         let equal : allEvenAndEqual ms ≡ true = rw e at (o .counts) in
-        let each = allBelow-each (length ms) (λ k. even (getD ms k 0) && eqb (getD ms k 0) (common ms)) equal in
+        let each = allBelow-each (length ms) (λ k. evenAndEqual (common ms) (getD ms k 0)) equal in
         ring e
         (all-same ms (common ms)
         (λ i h. eqb-true (getD ms i 0) (common ms) (and-eq-true-iff (even (getD ms i 0)) (eqb (getD ms i 0) (common ms)) .0 (each i h) .1)))

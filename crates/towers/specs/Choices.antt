@@ -29,11 +29,12 @@ unfoldable pub pegOf : Towers → ℕ → ℕ
 pegOf s i = cond (allOdd (survey s)) (sidePeg (getD (s .radices) i 0) (getD (s .word) i 0)) (getD (s .pegs) i 0)
 
 -- ---- the disk chosen
--- the smallest of the disks 1 to n for which the test holds, if there is one: a smaller one if there is, else disk n itself
+-- a disk, or else the other one
 abbrev pub orElse : Option ℕ → Option ℕ → Option ℕ
 orElse (some i) other = some i
 orElse none other = other
 
+-- the smallest of n disks for which the test holds, if there is one: it is the smallest of those before the last, or else the last
 unfoldable pub smallest : ℕ → (ℕ → Bool) → Option ℕ
 smallest zero test = none
 smallest (suc n) test = orElse (smallest n test) (cond (test n) (some n) none)

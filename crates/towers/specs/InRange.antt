@@ -14,7 +14,7 @@ use Rattle.gray.specs.Words.{even}
 use Rattle.gray.specs.Directions.{allBelow, digitsInRange}
 use Rattle.gray.specs.DigitRanges.{allBelow-each, each-allBelow}
 use Rattle.towers.specs.declared.Towers.{Towers}
-use Rattle.towers.specs.States.{allOdd, common, allEvenAndEqual, openCheck, survey, turnInRange, pegsInRange, inRange}
+use Rattle.towers.specs.States.{allOdd, common, evenAndEqual, allEvenAndEqual, openCheck, survey, turnInRange, pegsInRange, inRange}
 use Rattle.towers.specs.Openings.{Openable, openable}
 
 -- the lengths that the arrays of a state have
@@ -45,7 +45,7 @@ odd-by-first ms some e =
     (λ q.
     and-eq-true-iff (even (common ms)) (eqb (common ms) (common ms))
     .0
-    (allBelow-each (length ms) (λ i. even (getD ms i 0) && eqb (getD ms i 0) (common ms)) q 0 some)
+    (allBelow-each (length ms) (λ i. evenAndEqual (common ms) (getD ms i 0)) q 0 some)
     .0)
 
 -- ---- the range rule for a state, part by part

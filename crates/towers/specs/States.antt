@@ -19,8 +19,11 @@ allOdd ms = allBelow (length ms) (λ i. not (even (getD ms i 0)))
 abbrev pub common : List ℕ → ℕ
 common ms = getD ms 0 0
 
+abbrev pub evenAndEqual : ℕ → ℕ → Bool
+evenAndEqual m radix = even radix && eqb radix m
+
 unfoldable pub allEvenAndEqual : List ℕ → Bool
-allEvenAndEqual ms = allBelow (length ms) (λ i. even (getD ms i 0) && eqb (getD ms i 0) (common ms))
+allEvenAndEqual ms = allBelow (length ms) (λ i. evenAndEqual (common ms) (getD ms i 0))
 
 -- refusal 6: the counts are neither all odd nor all even and equal
 abbrev pub wrongCounts : List ℕ → Bool

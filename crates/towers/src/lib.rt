@@ -293,9 +293,10 @@ impl Towers {
         let mut pegs = self.pegs;
         let m = radices[0];
         let odd = !(m % 2 == 0);
+        let a = word[i];
         let down = downs[i];
         let peg = pegs[i];
-        let to = gray::advanced(radices[i], word[i], down);
+        let to = gray::advanced(radices[i], a, down);
         word[i] = to.digit;
         downs[i] = to.down;
         pegs[i] = if odd { peg } else { next_peg(m, i, peg) };
@@ -307,9 +308,10 @@ impl Towers {
             downs: downs,
             pegs: pegs,
         };
+        let k = i as u8 + 1;
         Stepped {
             towers: towers,
-            answer: Stepping::Moved(i as u8 + 1, down),
+            answer: Stepping::Moved(k, down),
         }
     }
 }

@@ -1,5 +1,7 @@
 -- `marathon::walk_all` meets its contract: a survey that is accepted has at most 48 places. Assumes nothing.
+use Prim.Native.Nat.{_≤_}
 use mathlib.Core.Path.{sym, ap, _∙_}
+use lib.ListN.{length}
 use Rattle.gray.specs.Calls.{countedAs}
 use Rattle.gray.specs.Refusals.{accepted}
 use borrow.Author.Needs.{needs}
@@ -24,10 +26,17 @@ print-refused-requires c κs = search needs
 returns : tie.Need-returns
 returns c = search needs
 
-walk-accepted-requires : tie.Need-walk-accepted-requires
-walk-accepted-requires c κs =
+-- what both walks ask for
+fits : (c : tie.After-known-told) → length (c .before .before .before .before .before .args .radices .now) ≤ 48
+fits c =
     let told = c .before in
     accepted _ _ (sym (told .before .before .size .ensures) ∙ ap countedAs (told .counted .given .1)) .most
+
+walk-ahead-requires : tie.Need-walk-ahead-requires
+walk-ahead-requires c κs = fits c
+
+walk-disks-requires : tie.Need-walk-disks-requires
+walk-disks-requires c κs = fits (c .before)
 
 returns-2 : tie.Need-returns-2
 returns-2 c = search needs
@@ -42,5 +51,6 @@ walk-all-spec =
     number-requires
     print-refused-requires
     returns
-    walk-accepted-requires
+    walk-ahead-requires
+    walk-disks-requires
     returns-2)

@@ -1,20 +1,17 @@
 -- `towers::all_even_and_equal` meets its contract: after i turns the first i radices are tested. Assumes nothing.
 use Prim.Native.Nat.{_-_, _≤_}
 use mathlib.Core.Path.{_≡_, refl}
-use mathlib.Core.Bool.{_&&_}
 use native.Mathlib.Omega.{arith}
-use lib.Dec.{eqb}
 use lib.ListN.{length, getD}
-use Rattle.gray.specs.Words.{even}
 use Rattle.gray.specs.Directions.{allBelow}
 use Rattle.gray.specs.DigitRanges.{tested-none, tested-more, tested-all}
-use Rattle.towers.specs.States.{common, allEvenAndEqual}
+use Rattle.towers.specs.States.{common, evenAndEqual, allEvenAndEqual}
 use Rattle.towers.proofs.all_even_and_equal.Statement.{statement}
 use Rattle.towers.proofs.all_even_and_equal.Tie as tie
 
 abbrev Inv-loop : tie.InvT-loop
 Inv-loop radices m ok₀ i₀ ok i =
-    (i ≤ length radices) × (ok ≡ allBelow i (λ j. even (getD radices j 0) && eqb (getD radices j 0) (common radices)))
+    (i ≤ length radices) × (ok ≡ allBelow i (λ j. evenAndEqual (common radices) (getD radices j 0)))
 
 abbrev μ-loop : tie.MeasureT-loop
 μ-loop radices m ok₀ i₀ ok i = length radices - i

@@ -3,12 +3,13 @@ use Prim.Native.Nat.{_<_}
 use mathlib.Core.Path.{_≡_, sym, ap, _∙_}
 use mathlib.Core.Logic.{⊎-elim}
 use mathlib.Core.Bool.{cond, not}
+use native.Mathlib.Omega.{arith}
 use borrow.Author.Needs.{needs}
 use lib.ListN.{getD}
 use Rattle.gray.specs.Words.{even}
 use Rattle.towers.specs.Calls.{pegAfter}
 use Rattle.towers.specs.InRange.{Arrays}
-use Rattle.towers.proofs.Steps.{first-pos, index-fits, turn-below, peg-within, disk-moved}
+use Rattle.towers.proofs.Steps.{first-two, index-fits, turn-below, peg-within, disk-moved}
 use Rattle.towers.proofs.Towers.advance.Statement.{statement}
 use Rattle.towers.proofs.Towers.advance.Tie as tie
 
@@ -21,6 +22,9 @@ fits c = index-fits (c .args .self) (lengths c) (c .pre .0) (c .args .i) (c .pre
 array-read-m : tie.Need-array-read-m
 array-read-m c = search needs
 
+array-read-a : tie.Need-array-read-a
+array-read-a c = fits (c .before .before .before .before)
+
 array-read-down : tie.Need-array-read-down
 array-read-down c = fits (c .before .before .before .before)
 
@@ -28,10 +32,7 @@ array-read-peg : tie.Need-array-read-peg
 array-read-peg c = fits (c .before .before .before .before)
 
 array-read-advanced : tie.Need-array-read-advanced
-array-read-advanced c = fits (c .before .before .before .before)
-
-array-read-advanced-2 : tie.Need-array-read-advanced-2
-array-read-advanced-2 c = fits (c .before .before .before .before)
+array-read-advanced c = let h = fits (c .before .before .before .before) in omega arith
 
 advanced-requires : tie.Need-advanced-requires
 advanced-requires c κs = search needs
@@ -53,13 +54,14 @@ array-write-pegs c = fits (c .before .before .before .before .before .before)
 next-turn-requires : tie.Need-next-turn-requires
 next-turn-requires c κs =
     let start = c .before .before .before .before .before .before in
-    (turn-below (start .args .self) (lengths start) (start .pre .0), first-pos (start .args .self) (lengths start) (start .pre .0))
+    let two = first-two (start .args .self) (lengths start) (start .pre .0) in
+    (turn-below (start .args .self) (lengths start) (start .pre .0), omega arith)
 
-cast-t68 : tie.Need-cast-t68
-cast-t68 c = search needs
+cast-k : tie.Need-cast-k
+cast-k c = search needs
 
-add-t69 : tie.Need-add-t69
-add-t69 c = search needs
+add-k : tie.Need-add-k
+add-k c = search needs
 
 returns : tie.Need-returns
 returns c =
@@ -83,16 +85,16 @@ advance-spec =
     tie.close
     (tie.spec
     array-read-m
+    array-read-a
     array-read-down
     array-read-peg
     array-read-advanced
-    array-read-advanced-2
     advanced-requires
     array-write-word
     array-write-downs
     next-peg-requires
     array-write-pegs
     next-turn-requires
-    cast-t68
-    add-t69
+    cast-k
+    add-k
     returns)

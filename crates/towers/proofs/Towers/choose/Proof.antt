@@ -5,7 +5,7 @@ use native.Mathlib.Omega.{arith}
 use borrow.Author.Needs.{needs}
 use lib.Seq.{length-take-le}
 use Rattle.towers.specs.InRange.{Arrays}
-use Rattle.towers.proofs.Steps.{first-pos, count-fits, first-disk, pair-disks, chooses-on-pair, chooses-in-sweep, chooses-on-ring}
+use Rattle.towers.proofs.Steps.{first-two, count-fits, first-disk, pair-disks, chooses-on-pair, chooses-in-sweep, chooses-on-ring}
 use Rattle.towers.proofs.Towers.choose.Statement.{statement}
 use Rattle.towers.proofs.Towers.choose.Tie as tie
 
@@ -59,13 +59,14 @@ returns c =
 sub-if2 : tie.Need-sub-if2
 sub-if2 c =
     let start = c .before .before .before in
-    first-pos (start .args .self) (lengths start) (start .pre)
+    let two = first-two (start .args .self) (lengths start) (start .pre) in
+    omega arith
 
 returns-2 : tie.Need-returns-2
 returns-2 c =
     let ring = c .before .before in
     let start = ring .before .before .before in
-    chooses-in-sweep (start .args .self) (lengths start) (start .pre) (ring .if1 .left) (c .if2 .taken)
+    chooses-in-sweep (start .args .self) (lengths start) (start .pre) (ring .if1 .left) (omega arith)
 
 array-share-prefix-pegs : tie.Need-array-share-prefix-pegs
 array-share-prefix-pegs c =
@@ -94,7 +95,7 @@ returns-3 c =
     let start = counted .before in
     chooses-on-ring (start .args .self) (lengths start) (start .pre) _ (counted .wide .ensures .0) _
     (ring .if1 .left)
-    (over .if2 .left)
+    (omega arith)
     (c .first-elsewhere .ensures)
 
 pub choose-spec : {M : Type 1} → statement M
