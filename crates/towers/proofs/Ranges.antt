@@ -1,7 +1,7 @@
 -- What a stage of an opening or of the range rule says, over plain lists, numbers and states. Assumes nothing.
 use Prim.Native.Nat.{ℕ, _≤_, _<_}
 use native.Mathlib.Omega.{arith}
-use mathlib.Core.Path.{_≡_, sym, ap, ap₂, _∙_}
+use mathlib.Core.Path.{_≡_, refl, sym, ap, ap₂, _∙_}
 use mathlib.Core.Bool.{Bool, true, false, cond, _&&_, _||_, not, and-false, and-assoc, Bool·not-not}
 use mathlib.Core.List.{List}
 use borrow.Author.Tests.{le-leb, lt-leb}
@@ -98,6 +98,14 @@ module _ (s : Towers) (long : length (s .radices) ≡ 48) (most : s .n ≤ 48) (
       rw (getD-take (s .n) (s .radices) i 0 h) at (radix-two (survey s) i (o .survey .two) (omega arith))
 
 -- ---- the range rule
+-- the test of the pegs, which is made for even counts only
+abbrev pub pegsPass : List ℕ → ℕ → Bool
+pegsPass pegs m = allBelow (length pegs) (λ i. leb (getD pegs i 0) m)
+
+or-is : (a b : Bool) → cond a true b ≡ (a || b)
+or-is true b = refl
+or-is false b = refl
+
 module _ (s : Towers) where
   pub digits-over : 48 < s .n → false ≡ inRange s
   unfolding inRange
@@ -146,16 +154,17 @@ module _ (s : Towers) (k : ℕ) (wide : k ≡ s .n) where
     turn-tested : (turns : ℕ) → turns ≡ cond (not (even m)) 2 m → ltb (s .turn) turns ≡ turnInRange (survey s) (s .turn)
     turn-tested turns e = ap (ltb (s .turn)) (e ∙ ap₂ (λ b n. cond b 2 n) (sym by-radix) (sym first))
 
-    pegs-tested : (within : Bool)
-        → within ≡ allBelow (length (take k (s .pegs))) (λ i. leb (getD (take k (s .pegs)) i 0) m)
-        → (not (even m) || within) ≡ pegsInRange (survey s) (s .pegs)
-    pegs-tested within e =
+    pegs-tested : (stacked : Bool)
+        → stacked ≡ cond (not (even m)) true (pegsPass (take k (s .pegs)) m)
+        → stacked ≡ pegsInRange (survey s) (s .pegs)
+    pegs-tested stacked e =
         let count : length (take k (s .pegs)) ≡ length (survey s) =
         length-take-le k (s .pegs) (omega arith) ∙ wide ∙ sym (survey-count s (long .radices) most can-open) in
         let inside : length (survey s) ≡ k = sym count ∙ length-take-le k (s .pegs) (omega arith) in
-        ap₂ _||_ (sym by-radix)
-        (e
-        ∙ ap (λ n. allBelow n (λ i. leb (getD (take k (s .pegs)) i 0) m)) count
+        e
+        ∙ or-is (not (even m)) (pegsPass (take k (s .pegs)) m)
+        ∙ ap₂ _||_ (sym by-radix)
+        (ap (λ n. allBelow n (λ i. leb (getD (take k (s .pegs)) i 0) m)) count
         ∙ allBelow-same (length (survey s)) (λ i. leb (getD (take k (s .pegs)) i 0) m)
         (λ i. leb (getD (s .pegs) i 0) (common (survey s)))
         (λ i h. ap₂ leb (getD-take k (s .pegs) i 0 (omega arith)) (sym first)))
@@ -168,13 +177,13 @@ module _ (s : Towers) (k : ℕ) (wide : k ≡ s .n) where
         ∙ digits-tested k (s .radices) (s .word) (s .downs) (omega arith) (omega arith) (omega arith)
         ∙ ap (λ n. digitsInRange n (s .radices) (s .word) (s .downs)) wide
 
-    pub state-tested : (notches within : Bool) (turns : ℕ)
+    pub state-tested : (notches stacked : Bool) (turns : ℕ)
         → notches ≡ wordInRange (take k (s .radices)) (take k (s .word)) (take k (s .downs))
         → turns ≡ cond (not (even m)) 2 m
-        → within ≡ allBelow (length (take k (s .pegs))) (λ i. leb (getD (take k (s .pegs)) i 0) m)
-        → notches && (ltb (s .turn) turns && (not (even m) || within)) ≡ inRange s
+        → stacked ≡ cond (not (even m)) true (pegsPass (take k (s .pegs)) m)
+        → notches && (ltb (s .turn) turns && stacked) ≡ inRange s
     unfolding inRange
-    state-tested notches within turns e f g =
+    state-tested notches stacked turns e f g =
         rw (le-leb (s .n) 48 most, opens)
-        (sym (and-assoc notches (ltb (s .turn) turns) (not (even m) || within))
-        ∙ ap₂ _&&_ (ap₂ _&&_ (digits-ranged notches e) (turn-tested turns f)) (pegs-tested within g))
+        (sym (and-assoc notches (ltb (s .turn) turns) stacked)
+        ∙ ap₂ _&&_ (ap₂ _&&_ (digits-ranged notches e) (turn-tested turns f)) (pegs-tested stacked g))

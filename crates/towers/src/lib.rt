@@ -239,7 +239,11 @@ impl Towers {
         let odd = !(m % 2 == 0);
         let notches = gray::digits_in_range(&radices[..n], &word[..n], &downs[..n]);
         let turns = if odd { 2 } else { m };
-        let stacked = odd | pegs_within(&pegs[..n], m);
+        let stacked = if odd {
+            true
+        } else {
+            pegs_within(&pegs[..n], m)
+        };
         notches & ((self.turn < turns) & stacked)
     }
 

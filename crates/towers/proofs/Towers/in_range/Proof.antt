@@ -2,7 +2,7 @@
 use Prim.Native.Nat.{_≤_}
 use mathlib.Core.Path.{_≡_, sym, ap, _∙_}
 use mathlib.Core.Logic.{⊎-elim}
-use mathlib.Core.Bool.{cond, not}
+use mathlib.Core.Bool.{true, cond, not}
 use native.Mathlib.Omega.{arith}
 use borrow.Author.Needs.{needs}
 use borrow.Author.Tests.{not-true, not-false}
@@ -14,7 +14,7 @@ use Rattle.gray.specs.Calls.{countedAs, sizeCall}
 use Rattle.gray.specs.Refusals.{accepted}
 use Rattle.towers.specs.States.{openCheck, survey}
 use Rattle.towers.specs.InRange.{Arrays}
-use Rattle.towers.proofs.Ranges.{digits-over, radices-refused, not-open, counts-open, state-tested}
+use Rattle.towers.proofs.Ranges.{pegsPass, digits-over, radices-refused, not-open, counts-open, state-tested}
 use Rattle.towers.proofs.Towers.in_range.Statement.{statement}
 use Rattle.towers.proofs.Towers.in_range.Tie as tie
 
@@ -123,7 +123,7 @@ digits-in-range-requires c κs = search needs
 
 array-share-prefix-pegs : tie.Need-array-share-prefix-pegs
 array-share-prefix-pegs c =
-    let here = counted (told (c .before .before .before .before .before)) in
+    let here = counted (told (c .before .before .before .before .before .before)) in
     let long = lengths (start here) in
     let most = fits here in
     omega arith
@@ -136,8 +136,8 @@ pegs-within-requires c κs = search needs
 
 returns-4 : tie.Need-returns-4
 returns-4 c =
-    let within = c .before in
-    let joined = within .before .before in
+    let tested = c .before in
+    let joined = tested .before in
     let pegs = joined .before .before .before .before .before in
     let here = counted (told pegs) in
     let s = start here .args .self in
@@ -147,6 +147,12 @@ returns-4 c =
     (λ t. t .1 ∙ sym (ap (λ b. cond b 2 m) (t .0 .taken)))
     (λ t. t .1 ∙ sym (ap (λ b. cond b 2 m) (t .0 .left)))
     (joined .if3 .came) in
+    let pass = pegsPass (take (here .wide .result) (s .pegs)) m in
+    let stacked : tested .if4 .stacked ≡ cond (not (even m)) true pass =
+    ⊎-elim
+    (λ t. t .1 ∙ sym (ap (λ b. cond b true pass) (t .0 .taken)))
+    (λ t. t .3 ∙ t .2 .ensures ∙ sym (ap (λ b. cond b true pass) (t .0 .left)))
+    (tested .if4 .came) in
     let passed = pegs .before .before .before in
     state-tested s _ (here .wide .ensures .0) (lengths (start here)) (here .before .if1 .left)
     (counts-say (passed .before) ∙ not-false _ (passed .if2 .left))
@@ -155,7 +161,7 @@ returns-4 c =
     _
     (joined .before .digits-in-range .ensures)
     turns
-    (within .pegs-within .ensures)
+    stacked
 
 pub in-range-spec : {M : Type 1} → statement M
 in-range-spec =
