@@ -103,9 +103,9 @@ module _ (ms : List ℕ) (r : ℕ) where
   peg-at k h =
       let w = length-wordAt ms r in
       let l = length-storedAt ms r in
-      rw
-      (take-filled 48 0 ms, getD-filled 48 0 ms k 0 h, getD-filled 48 0 (wordAt ms r) k 0 (omega arith), getD-filled 48 0 (storedAt ms r) k 0 (omega arith))
-      (go (allOdd ms))
+      let notch = getD-filled 48 0 (wordAt ms r) k 0 (omega arith) in
+      let stored = getD-filled 48 0 (storedAt ms r) k 0 (omega arith) in
+      rw (take-filled 48 0 ms, getD-filled 48 0 ms k 0 h, notch, stored) (go (allOdd ms))
     where
       go : (b : Bool)
           → cond b (sideAt ms r k) (getD (cond b (replicate (length ms) 0) (pegsAt false (common ms) (length ms) r)) k 0)

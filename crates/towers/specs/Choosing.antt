@@ -32,13 +32,13 @@ aside ms r = cond (allOdd ms) (leftOut r) (ringAside (common ms) r)
 stacked-by : (ms : List ℕ) → Openable ms → (r : ℕ) → Form ms → Stacked ms (pegAt ms) r (aside ms r)
 unfolding pegAt
 stacked-by ms o r f =
-    let abbreviated : Bool → Type 0 = λ b.
+    let claim : Bool → Type 0 = λ b.
     Stacked ms (λ q k. cond b (sideAt ms q k) (getD (pegsAt false (common ms) (length ms) q) k 0)) r
     (cond b (leftOut r) (ringAside (common ms) r)) in
     elim f [
-      | pairs e odd ↦ subst abbreviated (sym e) (pairs-stacked ms (o .survey .two) odd r)
+      | pairs e odd ↦ subst claim (sym e) (pairs-stacked ms (o .survey .two) odd r)
       | ring e same ↦
-          subst abbreviated (sym e)
+          subst claim (sym e)
           (subst
           (λ (l : List ℕ). Stacked l (λ q k. getD (pegsAt false (common ms) (length ms) q) k 0) r (ringAside (common ms) r))
           (sym same)
@@ -118,7 +118,8 @@ module _ (ms : List ℕ) (o : Openable ms) (r : ℕ) where
       ∙ ap (λ (p : ℕ). not (eqb (pegAt ms r i) p)) (sym aside-is))
 
   -- equal radices, after a sweep: the smallest disk that is not where disk 1 is
-  chosen-other : suc r % common ms ≡ 0 → smallest (length ms) (λ i. isTop (towersAt ms r) i && elsewhere (towersAt ms r) i) ≡ smallest (length ms) away
+  chosen-other : suc r % common ms ≡ 0
+      → smallest (length ms) (λ i. isTop (towersAt ms r) i && elsewhere (towersAt ms r) i) ≡ smallest (length ms) away
   chosen-other z =
       let s = towersAt ms r in
       let passed = first-passed ms (suc r) (o .survey .some) z in

@@ -109,7 +109,10 @@ module _ (ms : List ℕ) (o : Openable ms) where
         top = subst (λ (q : ℕ). (k : ℕ) → k < i → pegOf (state start q) k ≡ pegOf (state start q) i → ⊥) (sym z)
             (λ k l e.
             s .free i named within
-            (sym (pegs-of t i (omega arith) within) ∙ sym e ∙ pegs-of t k (omega arith) (omega arith) ∙ s .covered k (omega arith) (omega arith)));
+            (sym (pegs-of t i (omega arith) within)
+            ∙ sym e
+            ∙ pegs-of t k (omega arith) (omega arith)
+            ∙ s .covered k (omega arith) (omega arith)));
         lands = λ k l e.
             s .lands i named within
             (sym (pegs-of (suc t) i h within)
