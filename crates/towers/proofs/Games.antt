@@ -10,8 +10,8 @@ use borrow.Author.Tests.{eq-eqb, ne-eqb, lt-ltb, le-ltb}
 use lib.Dec.{eqb}
 use Rattle.gray.specs.Bools.{impossible}
 use Rattle.towers.specs.Choices.{sidePeg, onPair, smallest}
-use Rattle.towers.specs.Calls.{pegAfter}
-use Rattle.towers.specs.Stages.{found, turnBy}
+use Rattle.towers.specs.Calls.{turnBy, pegAfter}
+use Rattle.towers.specs.Stages.{found}
 use Rattle.towers.specs.Smallest.{smallest-none, smallest-some}
 
 -- ---- three pegs

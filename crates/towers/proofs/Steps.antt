@@ -20,8 +20,8 @@ use Rattle.gray.specs.declared.Stepping.the-variants.{Moved}
 use Rattle.towers.specs.declared.Towers.{Towers}
 use Rattle.towers.specs.States.{allOdd, common, survey, inRange}
 use Rattle.towers.specs.Choices.{sidePeg, pegOf, smallest, onPair, sweeping, isTop, elsewhere, chosenOnPair, chosenOnRing, chosen}
-use Rattle.towers.specs.Calls.{steppedAs, turnAfter, pegAfter, pegsAfter, moveOf, moveBy, stepOf}
-use Rattle.towers.specs.Stages.{found, turnBy, PairDisks}
+use Rattle.towers.specs.Calls.{steppedAs, turnBy, turnAfter, pegAfter, pegsAfter, moveOf, moveBy, stepOf}
+use Rattle.towers.specs.Stages.{found, PairDisks}
 use Rattle.towers.specs.Smallest.{smallest-same, smallest-elsewhere-is-top}
 use Rattle.towers.specs.Openings.{Openable}
 use Rattle.towers.specs.InRange.{Arrays, RangeSays, range-says, survey-openable, survey-long}

@@ -1,6 +1,6 @@
 -- The disk engine's calls (document 01, "The disk engine"): what each hands back, for every state there is.
 use Prim.Native.Nat.{ℕ, suc, _+_, _-_}
-use mathlib.Core.Bool.{false, cond, not}
+use mathlib.Core.Bool.{Bool, false, cond, not}
 use mathlib.Core.List.{List, []}
 use mathlib.Core.Option.{Option, none, some}
 use lib.Dec.{eqb}
@@ -53,9 +53,11 @@ openOf s radices = openWith s (digits radices) (openCheck (digits radices))
 
 -- ---- one call
 -- the turn after a move: for odd counts the other pair's; for even ones a move of disk 1 more, or 0 after the other disk's move
+abbrev pub turnBy : Bool → ℕ → ℕ → ℕ
+turnBy odd m turn = cond odd (1 - turn) (cond (sweeping m turn) (turn + 1) 0)
+
 abbrev pub turnAfter : Towers → ℕ
-turnAfter s =
-    cond (allOdd (survey s)) (1 - s .turn) (cond (sweeping (common (survey s)) (s .turn)) (s .turn + 1) 0)
+turnAfter s = turnBy (allOdd (survey s)) (common (survey s)) (s .turn)
 
 -- the next peg of a ring of m + 1, clockwise and the other way
 abbrev pub clockwise : ℕ → ℕ → ℕ

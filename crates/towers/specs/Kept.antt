@@ -1,6 +1,6 @@
 -- The range rule is kept by every call, also from a made-up state; for odd radices the stored pegs play no part; and a closed game
 -- gets 7.
-use Prim.Native.Nat.{ℕ, suc, _+_, _-_, _≤_, _<_}
+use Prim.Native.Nat.{ℕ, suc, _-_, _≤_, _<_}
 use native.Mathlib.Decide.{decLt, ℕ-discrete}
 use native.Mathlib.Omega.{arith}
 use mathlib.Core.Path.{_≡_, refl, ap, _∙_}
@@ -17,7 +17,7 @@ use Rattle.gray.specs.Engines.{Event, Handed, refusedWith}
 use Rattle.towers.specs.declared.Towers.{Towers}
 use Rattle.towers.specs.States.{allOdd, common, survey, inRange}
 use Rattle.towers.specs.Choices.{pegOf, smallest, onPair, sweeping, isTop, elsewhere, chosenOnPair, chosenOnRing, chosen}
-use Rattle.towers.specs.Calls.{fresh, closedTowers, clockwise, anticlockwise, pegAfter, pegsAfter, moveOf, moveBy, stepOf}
+use Rattle.towers.specs.Calls.{fresh, closedTowers, turnBy, clockwise, anticlockwise, pegAfter, pegsAfter, moveOf, moveBy, stepOf}
 use Rattle.towers.specs.Smallest.{smallest-says}
 use Rattle.towers.specs.Openings.{Openable}
 use Rattle.towers.specs.InRange.{Arrays, RangeSays, range-says, says-range, survey-openable, survey-long}
@@ -26,7 +26,7 @@ use Rattle.towers.specs.InRange.{Arrays, RangeSays, range-says, says-ran
 turn-kept : (odd : Bool) (m turn : ℕ)
     → 2 ≤ m
     → turn < cond odd 2 m
-    → cond odd (1 - turn) (cond (sweeping m turn) (turn + 1) 0) < cond odd 2 m
+    → turnBy odd m turn < cond odd 2 m
 turn-kept true m turn two h = omega arith
 turn-kept false m turn two h =
     elim (decLt turn (m - 1)) [

@@ -19,6 +19,7 @@ allOdd ms = allBelow (length ms) (λ i. not (even (getD ms i 0)))
 abbrev pub common : List ℕ → ℕ
 common ms = getD ms 0 0
 
+-- a radix is even and the same as m
 abbrev pub evenAndEqual : ℕ → ℕ → Bool
 evenAndEqual m radix = even radix && eqb radix m
 

@@ -11,11 +11,12 @@ ghost use lib.ListN.{length, getD};
 ghost use Rattle.gray.specs.Directions.{allBelow};
 ghost use Rattle.towers.specs.States.{allOdd, allEvenAndEqual, inRange};
 ghost use Rattle.towers.specs.Choices.{sidePeg, onPair, smallest, chosen};
-ghost use Rattle.towers.specs.Calls.{freshWith, closedTowers, openedAs, openOf, steppedAs, pegAfter, moveOf, stepOf};
-ghost use Rattle.towers.specs.Stages.{found, turnBy, PairDisks};
+ghost use Rattle.towers.specs.Calls.{freshWith, closedTowers, openedAs, openOf, steppedAs, turnBy, pegAfter, moveOf, stepOf};
+ghost use Rattle.towers.specs.Stages.{found, PairDisks};
 
-// The state: the survey (radices and their number n), the word (setting), the turn, the directions (down or not) and, for even
-// radices, each disk's peg. For odd ones the peg follows from the digit, and the array plays no part.
+// The state: the survey (radices and their number n), the word (setting), the turn, the directions (down or not) and the pegs. For
+// odd radices the turn says which pair of pegs is next, 0 for the left one; a disk's peg follows from its digit, and the array of
+// pegs plays no part. For even ones the turn counts the moves of disk 1 in its sweep, and each disk's peg is stored.
 pub struct Towers {
     pub radices: [u8; 48],
     pub n: u8,
@@ -137,7 +138,7 @@ fn first_elsewhere(pegs: &[u8]) -> usize
 {
     let n = pegs.len();
     let first = pegs[0];
-    let mut i = 0;
+    let mut i = 1;
     while i < n {
         if pegs[i] != first {
             return i;
