@@ -160,7 +160,7 @@ digits-move-in-range n radices word downs i h lw ld two e =
     e
 
 -- only the digits themselves count
-pub digits-in-range-take : (n : ℕ) (radices word : List ℕ) (downs : List Bool)
+digits-in-range-take : (n : ℕ) (radices word : List ℕ) (downs : List Bool)
     → digitsInRange n (take n radices) (take n word) (take n downs) ≡ digitsInRange n radices word downs
 digits-in-range-take n radices word downs =
     allBelow-same n (λ i. digitInRange (getD (take n radices) i 0) (getD (take n word) i 0) (getD (take n downs) i false))
