@@ -154,10 +154,10 @@ module _ (s : Towers) (k : ℕ) (wide : k ≡ s .n) where
     turn-tested : (turns : ℕ) → turns ≡ cond (not (even m)) 2 m → ltb (s .turn) turns ≡ turnInRange (survey s) (s .turn)
     turn-tested turns e = ap (ltb (s .turn)) (e ∙ ap₂ (λ b n. cond b 2 n) (sym by-radix) (sym first))
 
-    pegs-tested : (stacked : Bool)
-        → stacked ≡ cond (not (even m)) true (pegsPass (take k (s .pegs)) m)
-        → stacked ≡ pegsInRange (survey s) (s .pegs)
-    pegs-tested stacked e =
+    pegs-tested : (within : Bool)
+        → within ≡ cond (not (even m)) true (pegsPass (take k (s .pegs)) m)
+        → within ≡ pegsInRange (survey s) (s .pegs)
+    pegs-tested within e =
         let count : length (take k (s .pegs)) ≡ length (survey s) =
         length-take-le k (s .pegs) (omega arith) ∙ wide ∙ sym (survey-count s (long .radices) most can-open) in
         let inside : length (survey s) ≡ k = sym count ∙ length-take-le k (s .pegs) (omega arith) in
@@ -177,13 +177,13 @@ module _ (s : Towers) (k : ℕ) (wide : k ≡ s .n) where
         ∙ digits-tested k (s .radices) (s .word) (s .downs) (omega arith) (omega arith) (omega arith)
         ∙ ap (λ n. digitsInRange n (s .radices) (s .word) (s .downs)) wide
 
-    pub state-tested : (notches stacked : Bool) (turns : ℕ)
+    pub state-tested : (notches within : Bool) (turns : ℕ)
         → notches ≡ wordInRange (take k (s .radices)) (take k (s .word)) (take k (s .downs))
         → turns ≡ cond (not (even m)) 2 m
-        → stacked ≡ cond (not (even m)) true (pegsPass (take k (s .pegs)) m)
-        → notches && (ltb (s .turn) turns && stacked) ≡ inRange s
+        → within ≡ cond (not (even m)) true (pegsPass (take k (s .pegs)) m)
+        → notches && (ltb (s .turn) turns && within) ≡ inRange s
     unfolding inRange
-    state-tested notches stacked turns e f g =
+    state-tested notches within turns e f g =
         rw (le-leb (s .n) 48 most, opens)
-        (sym (and-assoc notches (ltb (s .turn) turns) stacked)
-        ∙ ap₂ _&&_ (ap₂ _&&_ (digits-ranged notches e) (turn-tested turns f)) (pegs-tested stacked g))
+        (sym (and-assoc notches (ltb (s .turn) turns) within)
+        ∙ ap₂ _&&_ (ap₂ _&&_ (digits-ranged notches e) (turn-tested turns f)) (pegs-tested within g))

@@ -240,12 +240,12 @@ impl Towers {
         let odd = !(m % 2 == 0);
         let notches = gray::digits_in_range(&radices[..n], &word[..n], &downs[..n]);
         let turns = if odd { 2 } else { m };
-        let stacked = if odd {
+        let within = if odd {
             true
         } else {
             pegs_within(&pegs[..n], m)
         };
-        notches & ((self.turn < turns) & stacked)
+        notches & ((self.turn < turns) & within)
     }
 
     // The index of the disk that the call moves; n where there is none.

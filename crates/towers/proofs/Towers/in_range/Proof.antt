@@ -148,7 +148,7 @@ returns-4 c =
     (λ t. t .1 ∙ sym (ap (λ b. cond b 2 m) (t .0 .left)))
     (joined .if3 .came) in
     let pass = pegsPass (take (here .wide .result) (s .pegs)) m in
-    let stacked : tested .if4 .stacked ≡ cond (not (even m)) true pass =
+    let within : tested .if4 .within ≡ cond (not (even m)) true pass =
     ⊎-elim
     (λ t. t .1 ∙ sym (ap (λ b. cond b true pass) (t .0 .taken)))
     (λ t. t .3 ∙ t .2 .ensures ∙ sym (ap (λ b. cond b true pass) (t .0 .left)))
@@ -161,7 +161,7 @@ returns-4 c =
     _
     (joined .before .digits-in-range .ensures)
     turns
-    stacked
+    within
 
 pub in-range-spec : {M : Type 1} → statement M
 in-range-spec =
