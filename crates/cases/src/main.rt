@@ -67,18 +67,33 @@ fn rank_case(radices: &[u8], word: &[u8]) {
     print(b"\n");
 }
 
-fn word_case(radices: &[u8], rank: u64, out: &mut [u8]) {
-    print(b"word");
-    print_bytes(radices);
-    print(b", ");
-    print_number(rank);
-    match gray::word(radices, rank, out) {
+// What a writer answers, and the bytes that it was lent.
+fn print_written(answer: Written, out: &[u8]) {
+    match answer {
         Written::Bytes(n) => print_value(n as u64),
         Written::Refused(k) => print_refused(k),
     }
     print(b";");
     print_bytes(out);
     print(b"\n");
+}
+
+fn word_case(radices: &[u8], rank: u64, out: &mut [u8]) {
+    print(b"word");
+    print_bytes(radices);
+    print(b", ");
+    print_number(rank);
+    print_written(gray::word(radices, rank, out), out);
+}
+
+fn list_case(radices: &[u8], from: u64, count: u64, out: &mut [u8]) {
+    print(b"list");
+    print_bytes(radices);
+    print(b", ");
+    print_number(from);
+    print(b", ");
+    print_number(count);
+    print_written(lister::list(radices, from, count, out), out);
 }
 
 fn move_case(digit: u8, down: bool) {
@@ -164,11 +179,44 @@ fn moves() {
     move_case(128, false);
 }
 
+// The sum of rank and count may be more than 64 bits hold.
+fn runs_refused() {
+    let mut out = [9u8; 13];
+    list_case(b"\x02\x01", 0, 0, &mut out);
+    list_case(b"\x02\x03", 6, 1, &mut out);
+    list_case(b"\x02\x03", 7, 0, &mut out);
+    list_case(b"\x02\x03", 1, 18446744073709551615, &mut out);
+    list_case(b"\x02\x03", 18446744073709551615, 1, &mut out);
+    let mut short = [9u8; 11];
+    list_case(b"\x02\x03", 0, 6, &mut short);
+    list_case(b"\x02\x03", 0, 7, &mut short);
+}
+
+fn runs() {
+    let mut out = [9u8; 13];
+    list_case(b"\x02\x03", 6, 0, &mut out);
+    list_case(b"\x02\x03", 2, 3, &mut out);
+    list_case(b"\x02\x03", 0, 6, &mut out);
+}
+
+// One digit; three; and far into the list of 48, past all but two words of it.
+fn windows() {
+    let mut out = [9u8; 13];
+    list_case(b"\x05", 1, 3, &mut out);
+    list_case(b"\x03\x02\x04", 6, 4, &mut out);
+    let twos = [2u8; 48];
+    let mut long = [9u8; 97];
+    list_case(&twos, 281474976710654, 2, &mut long);
+}
+
 fn main() {
     sizes();
     limits();
     numbers();
     ranks();
     words();
+    runs_refused();
+    runs();
+    windows();
     moves();
 }

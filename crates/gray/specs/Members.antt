@@ -24,7 +24,7 @@ length-wordAt [] r = refl
 length-wordAt (m ∷ ms) r = ap suc (length-wordAt ms (r / m))
 
 -- ---- one digit's notches, up or down
-length-upward : (m : ℕ) → length (upward m) ≡ m
+pub length-upward : (m : ℕ) → length (upward m) ≡ m
 unfolding upward
 length-upward zero = refl
 length-upward (suc m) = length-append (upward m) (m ∷ []) ∙ ap (λ (k : ℕ). k + 1) (length-upward m) ∙ add-one m
@@ -34,7 +34,7 @@ unfolding downward
 length-downward zero = refl
 length-downward (suc m) = ap suc (length-downward m)
 
-getD-upward : (m i : ℕ) → i < m → getD (upward m) i 0 ≡ i
+pub getD-upward : (m i : ℕ) → i < m → getD (upward m) i 0 ≡ i
 unfolding upward
 getD-upward zero i h = absurd (omega arith)
 getD-upward (suc m) i h =
@@ -43,7 +43,7 @@ getD-upward (suc m) i h =
       | no q ↦ let e : m ≡ i = omega arith in getD-at (upward m) m [] 0 i (length-upward m ∙ e) ∙ e
     ]
 
-getD-downward : (m i : ℕ) → i < m → getD (downward m) i 0 ≡ m - 1 - i
+pub getD-downward : (m i : ℕ) → i < m → getD (downward m) i 0 ≡ m - 1 - i
 unfolding downward
 getD-downward zero i h = absurd (omega arith)
 getD-downward (suc m) zero h = omega arith

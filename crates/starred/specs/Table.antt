@@ -4,7 +4,7 @@ use Prim.Native.Nat.{ℕ, zero, suc, _-_, _^_, _<_}
 use native.Mathlib.Omega.{arith}
 use mathlib.Core.Path.{_≡_, refl}
 use mathlib.Core.Bool.{Bool, true, false, cond, _&&_, and-eq-true-iff}
-use mathlib.Core.List.{List, [], _∷_, map}
+use mathlib.Core.List.{List, [], _∷_, map, flatten}
 use lib.ListN.{length, getD, take, replicate}
 use Rattle.gray.specs.Answers.{Answer, given, refused}
 use Rattle.gray.specs.Radices.{digits, bytes, size, allFrom}
@@ -23,6 +23,8 @@ use Rattle.towers.specs.declared.Towers.{Towers}
 use Rattle.towers.specs.States.{allOdd, allEvenAndEqual, setting as diskSetting, inRange as disksInRange}
 use Rattle.towers.specs.Choices.{pegOf, smallest, chosen}
 use Rattle.towers.specs.Calls.{closedTowers, fresh as freshDisks, openOf as openDisks, moveOf as moveDisk, stepOf as stepDisks}
+use Rattle.lister.specs.Listers.{blocks, listing}
+use Rattle.lister.specs.Calls.{listCall}
 use Rattle.starred.specs.Same.{Test, numbers, changes, events, units, lists, answers}
 
 -- a row: what the definitions give, and what document 01 says it is
@@ -146,6 +148,15 @@ table =
     -- three of 2: the answers, the end and the call after it
     ∷ row (lists (answers events)) (map (answerOf stepDisks (disks (replicate 3 2))) (1 ∷ 2 ∷ 3 ∷ 4 ∷ 5 ∷ 6 ∷ 7 ∷ 8 ∷ 9 ∷ []))
     (names (up 1) ∷ names (up 2) ∷ names (down 1) ∷ names (up 3) ∷ names (up 1) ∷ names (down 2) ∷ names (down 1) ∷ end ∷ end ∷ [])
+    -- zero settings from rank N, and one
+    ∷ row (answers (lists numbers)) (listCall (2 ∷ 3 ∷ []) 6 0 0) (given [])
+    ∷ row (answers (lists numbers)) (listCall (2 ∷ 3 ∷ []) 6 1 2) (refused 8)
+    -- all of 2, 3, and with a byte too little; by the downward lister they come from last to first
+    ∷ row (answers (lists numbers)) (listCall (2 ∷ 3 ∷ []) 0 6 12)
+    (given (0 ∷ 0 ∷ 0 ∷ 1 ∷ 0 ∷ 2 ∷ 1 ∷ 2 ∷ 1 ∷ 1 ∷ 1 ∷ 0 ∷ []))
+    ∷ row (answers (lists numbers)) (listCall (2 ∷ 3 ∷ []) 0 6 11) (refused 9)
+    ∷ row (lists (lists numbers)) (listing true (2 ∷ 3 ∷ []))
+    ((1 ∷ 0 ∷ []) ∷ (1 ∷ 1 ∷ []) ∷ (1 ∷ 2 ∷ []) ∷ (0 ∷ 2 ∷ []) ∷ (0 ∷ 1 ∷ []) ∷ (0 ∷ 0 ∷ []) ∷ [])
     ∷ []
 
 passes : List Row → Bool
@@ -159,7 +170,7 @@ each (r ∷ rs) e zero h = r .test .shows (r .computed) (r .said) (and-eq-true-i
 each (r ∷ rs) e (suc i) h = each rs (and-eq-true-iff (r .test .same (r .computed) (r .said)) (passes rs) .0 e .1) i (omega arith)
 
 tested : passes table ≡ true
-unfolding passes table sizeCall rankCall size allFrom upward downward notches through list isWord rank difference ruler wholeParts allBelow after producerInRange inRange kind done fresh openOf course dequeued endOf moveOf stepOf eventsOf allOdd allEvenAndEqual disksInRange pegOf smallest chosen freshDisks openDisks moveDisk stepDisks
+unfolding passes table sizeCall rankCall size allFrom upward downward notches through list isWord rank difference ruler wholeParts allBelow after producerInRange inRange kind done fresh openOf course dequeued endOf moveOf stepOf eventsOf allOdd allEvenAndEqual disksInRange pegOf smallest chosen freshDisks openDisks moveDisk stepDisks listCall flatten blocks listing
 tested = refl
 
 -- every row of the table holds

@@ -1,0 +1,18 @@
+-- What the call of this crate answers, in document 01's terms: the refusals in their order, and then the bytes.
+use Prim.Native.Nat.{ℕ, _+_}
+use mathlib.Core.List.{List, map, flatten}
+use lib.Dec.{ltb}
+use lib.ListN.{take, drop}
+use Rattle.gray.specs.Answers.{Answer, refusing, fitting}
+use Rattle.gray.specs.Radices.{digits, bytes, size, ofRadices}
+use Rattle.gray.specs.Words.{list}
+
+-- the t settings of the list from rank r on
+abbrev pub settings : List ℕ → ℕ → ℕ → List (List ℕ)
+settings ms r t = take t (drop r (list ms))
+
+-- the bytes of these settings, one setting after another, for an output of `room` bytes
+unfoldable pub listCall : List ℕ → ℕ → ℕ → ℕ → Answer (List ℕ)
+listCall radices r t room =
+    ofRadices (digits radices)
+    (refusing 8 (ltb (size (digits radices)) (r + t)) (fitting room (flatten (map bytes (settings (digits radices) r t)))))

@@ -1,0 +1,12 @@
+-- The writer of settings. Read the definitions first; Reflections has the theorem about the two listers.
+
+-- definitions
+pub mod Listers
+pub mod Calls
+-- theorems
+pub mod Settings
+pub mod Reflections
+-- the list backward, and with one digit more at its slow end
+pub mod Reversing
+-- what private functions ask for and leave
+pub mod Outputs

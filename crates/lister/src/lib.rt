@@ -1,0 +1,315 @@
+// The writer of settings (document 01): an upward and a downward lister, each calling the other for the digits that remain.
+// Radices and words are lent bytes with digit n first.
+
+use gray::Counted;
+use gray::Written;
+use gray::size;
+ghost use mathlib.Core.Path.{_≡_};
+ghost use mathlib.Core.Bool.{Bool, true, false, cond};
+ghost use mathlib.Core.List.{[], _∷_, _++_};
+ghost use Prim.Native.Nat.{_+_, _-_, _*_, _^_, _≤_, _<_};
+ghost use lib.Dec.{leb};
+ghost use lib.ListN.{length, take, drop};
+ghost use Rattle.gray.specs.Answers.{Wrote};
+ghost use Rattle.gray.specs.Calls.{writtenAs};
+ghost use Rattle.gray.specs.Radices.{size as sizeOf, allFrom};
+ghost use Rattle.lister.specs.Listers.{listing};
+ghost use Rattle.lister.specs.Calls.{listCall};
+ghost use Rattle.lister.specs.Outputs.{placed, window, laid, notchAfter, Sized, Reached, RowRoom};
+
+// The bytes go by way of a local array: nothing else refers to it, so they can all be moved at once.
+fn load(from: &[u8; 48], start: usize, count: usize) -> [u8; 16]
+    requires { ⌜ (length (now from) ≡ 48) × (start + count ≤ 48) × (count ≤ 16) ⌝ }
+    ensures { λ r. ⌜ take count r ≡ take count (drop start (now (from .entry))) ⌝ }
+{
+    let mut chunk = [0u8; 16];
+    let mut k = 0;
+    while k < count {
+        chunk[k] = from[start + k];
+        k += 1;
+    }
+    chunk
+}
+
+fn store(chunk: [u8; 16], count: usize, out: &mut [u8], at: usize)
+    requires { ⌜ (count ≤ 16) × (at + count ≤ length (now out)) ⌝ }
+    ensures { λ _. ⌜ now (out .exit) ≡ placed at (take count chunk) (now (out .entry)) ⌝ }
+{
+    let mut k = 0;
+    while k < count {
+        out[at + k] = chunk[k];
+        k += 1;
+    }
+}
+
+fn copy(from: &[u8; 48], start: usize, count: usize, out: &mut [u8], at: usize)
+    requires { ⌜ (length (now from) ≡ 48) × (start + count ≤ 48) × (count ≤ 16) × (at + start + count ≤ length (now out)) ⌝ }
+    ensures { λ _. ⌜ now (out .exit) ≡ placed (at + start) (take count (drop start (now (from .entry)))) (now (out .entry)) ⌝ }
+{
+    let chunk = load(from, start, count);
+    store(chunk, count, out, at + start);
+}
+
+// The first k bytes of a word in chunks of c bytes; the last chunk may begin within the one before.
+fn copy_by(c: usize, word: &[u8; 48], k: usize, out: &mut [u8], at: usize)
+    requires { ⌜ (length (now word) ≡ 48) × (0 < c) × (c ≤ 16) × (c ≤ k) × (k ≤ 48) × (at + k ≤ length (now out)) ⌝ }
+    ensures { λ _. ⌜ now (out .exit) ≡ placed at (take k (now (word .entry))) (now (out .entry)) ⌝ }
+{
+    let mut i = 0;
+    while i + c <= k {
+        copy(word, i, c, out, at);
+        i += c;
+    }
+    copy(word, k - c, c, out, at);
+}
+
+fn put(word: &[u8; 48], k: usize, out: &mut [u8], at: usize)
+    requires { ⌜ (length (now word) ≡ 48) × (k ≤ 48) × (at + k ≤ length (now out)) ⌝ }
+    ensures { λ _. ⌜ now (out .exit) ≡ placed at (take k (now (word .entry))) (now (out .entry)) ⌝ }
+{
+    if 16 <= k {
+        copy_by(16, word, k, out, at);
+    } else if 8 <= k {
+        copy_by(8, word, k, out, at);
+    } else if 4 <= k {
+        copy_by(4, word, k, out, at);
+    } else {
+        copy(word, 0, k, out, at);
+    }
+}
+
+fn wide(x: u8) -> usize
+    ensures { λ r. ⌜ (r ≡ x) × (r < 256) ⌝ }
+{
+    x as usize
+}
+
+fn less(a: usize, b: usize) -> usize
+    ensures { λ r. ⌜ r ≡ a - (a - b) ⌝ }
+{
+    if a < b { a } else { b }
+}
+
+// The notch that a lister comes to after u others.
+fn notch(m: usize, down: bool, u: usize) -> u8
+    requires { ⌜ (u < m) × (m < 256) ⌝ }
+    ensures { λ r. ⌜ r ≡ notchAfter down m u ⌝ }
+{
+    (if down { m - 1 - u } else { u }) as u8
+}
+
+// A word: the digits of `word` but the last two, and those.
+fn put_word(word: &[u8; 48], n: usize, a: u8, b: u8, out: &mut [u8], at: usize)
+    requires { ⌜ (length (now word) ≡ 48) × (2 ≤ n) × (n ≤ 48) × (at + n ≤ length (now out)) ⌝ }
+    ensures { λ _. ⌜ now (out .exit) ≡ placed at (take (n - 2) (now (word .entry)) ++ (a ∷ b ∷ [])) (now (out .entry)) ⌝ }
+{
+    let k = n - 2;
+    put(word, k, out, at);
+    let place = at + k;
+    out[place] = a;
+    let next = place + 1;
+    out[next] = b;
+}
+
+struct Window {
+    skip: usize,
+    left: usize,
+    at: usize,
+}
+
+impl Window {
+    fn past(self, q: usize, n: usize) -> Window
+        requires { ⌜ self .at + self .left * n < 2 ^ 64 ⌝ }
+        ensures { λ r. ⌜ (r .skip ≡ self .skip - q) × (r .left ≡ self .left - (q - self .skip)) × (r .at + r .left * n ≡ self .at + self .left * n) ⌝ }
+    {
+        if q <= self.skip {
+            return Window {
+                skip: self.skip - q,
+                left: self.left,
+                at: self.at,
+            };
+        }
+        let words = less(q - self.skip, self.left);
+        let length = words * n;
+        Window {
+            skip: 0,
+            left: self.left - words,
+            at: self.at + length,
+        }
+    }
+}
+
+// The words in which only the last digit moves.
+fn row(
+    word: &[u8; 48],
+    n: usize,
+    a: u8,
+    m: usize,
+    down: bool,
+    skip: usize,
+    left: usize,
+    out: &mut [u8],
+    start: usize,
+)
+    requires { ⌜ RowRoom (now word) n m skip left (now out) start ⌝ }
+    ensures { λ _. ⌜ now (out .exit) ≡ laid start (take (n - 2) (now (word .entry)) ++ (a ∷ [])) (window skip left (listing down (m ∷ []))) (now (out .entry)) ⌝ }
+{
+    let end = less(m, skip + left);
+    let mut at = start;
+    let mut u = skip;
+    while u < end {
+        put_word(word, n, a, notch(m, down, u), out, at);
+        at += n;
+        u += 1;
+    }
+}
+
+fn up(
+    radices: &[u8],
+    sizes: &[usize; 48],
+    word: &mut [u8; 48],
+    i: usize,
+    skip: usize,
+    left: usize,
+    out: &mut [u8],
+    start: usize,
+)
+    requires { ⌜ Reached (now radices) (now sizes) (now word) i skip left (now out) start ⌝ }
+    ensures { λ _. ⌜ now (out .exit) ≡ laid start (take i (now (word .entry))) (window skip left (listing false (drop i (now (radices .entry))))) (now (out .entry)) ⌝ }
+    ensures { λ _. ⌜ take i (now (word .exit)) ≡ take i (now (word .entry)) ⌝ }
+    ensures { λ _. ⌜ length (now (word .exit)) ≡ 48 ⌝ }
+{
+    let n = radices.len();
+    if i == n {
+        put(word, n, out, start);
+        return;
+    }
+    let m = wide(radices[i]);
+    let q = sizes[i];
+    let mut w = Window {
+        skip: skip,
+        left: left,
+        at: start,
+    };
+    let mut u = 0;
+    while (u < m) & (0 < w.left) {
+        if w.skip < q {
+            let a = notch(m, false, u);
+            if i + 2 == n {
+                let last = wide(radices[i + 1]);
+                row(word, n, a, last, a % 2 == 1, w.skip, w.left, out, w.at);
+            } else {
+                word[i] = a;
+                if a % 2 == 0 {
+                    up(radices, sizes, word, i + 1, w.skip, w.left, out, w.at);
+                } else {
+                    down(radices, sizes, word, i + 1, w.skip, w.left, out, w.at);
+                }
+            }
+        }
+        w = w.past(q, n);
+        u += 1;
+    }
+}
+
+fn down(
+    radices: &[u8],
+    sizes: &[usize; 48],
+    word: &mut [u8; 48],
+    i: usize,
+    skip: usize,
+    left: usize,
+    out: &mut [u8],
+    start: usize,
+)
+    requires { ⌜ Reached (now radices) (now sizes) (now word) i skip left (now out) start ⌝ }
+    ensures { λ _. ⌜ now (out .exit) ≡ laid start (take i (now (word .entry))) (window skip left (listing true (drop i (now (radices .entry))))) (now (out .entry)) ⌝ }
+    ensures { λ _. ⌜ take i (now (word .exit)) ≡ take i (now (word .entry)) ⌝ }
+    ensures { λ _. ⌜ length (now (word .exit)) ≡ 48 ⌝ }
+{
+    let n = radices.len();
+    if i == n {
+        put(word, n, out, start);
+        return;
+    }
+    let m = wide(radices[i]);
+    let q = sizes[i];
+    let mut w = Window {
+        skip: skip,
+        left: left,
+        at: start,
+    };
+    let mut u = 0;
+    while (u < m) & (0 < w.left) {
+        if w.skip < q {
+            let a = notch(m, true, u);
+            if i + 2 == n {
+                let last = wide(radices[i + 1]);
+                row(word, n, a, last, a % 2 == 0, w.skip, w.left, out, w.at);
+            } else {
+                word[i] = a;
+                if a % 2 == 0 {
+                    down(radices, sizes, word, i + 1, w.skip, w.left, out, w.at);
+                } else {
+                    up(radices, sizes, word, i + 1, w.skip, w.left, out, w.at);
+                }
+            }
+        }
+        w = w.past(q, n);
+        u += 1;
+    }
+}
+
+// For each digit the number of words of the digits after it.
+fn block_sizes(radices: &[u8]) -> [usize; 48]
+    requires { ⌜ (length (now radices) ≤ 48) × (allFrom 1 (now radices) ≡ true) × (sizeOf (now radices) ≤ 2 ^ 62) ⌝ }
+    ensures { λ r. ⌜ (length r ≡ 48) × Sized (now (radices .entry)) r ⌝ }
+{
+    let mut sizes = [1usize; 48];
+    let mut q = 1;
+    let mut i = radices.len();
+    while 0 < i {
+        i -= 1;
+        sizes[i] = q;
+        q = q * wide(radices[i]);
+    }
+    sizes
+}
+
+// Whether a list of `total` words has `count` from rank `from` on. No sum is made that could be too large.
+fn within(total: u64, from: u64, count: u64) -> bool
+    ensures { λ r. ⌜ r ≡ leb (from + count) total ⌝ }
+{
+    if total < from {
+        return false;
+    }
+    count <= total - from
+}
+
+// The settings of ranks `from` to `from + count - 1`, one after another, at the start of `out`.
+pub fn list(radices: &[u8], from: u64, count: u64, out: &mut [u8]) -> Written
+    ensures { λ r. ⌜ Wrote (listCall (now (radices .entry)) from count) (writtenAs r) (now (out .entry)) (now (out .exit)) ⌝ }
+{
+    let counted = size(radices);
+    let Counted::Size(total) = counted else {
+        return Written::Refused(counted.number());
+    };
+    if !within(total, from, count) {
+        return Written::Refused(8);
+    }
+    let n = radices.len();
+    let room = (out.len() / n) as u64;
+    if room < count {
+        return Written::Refused(9);
+    }
+    if count == 0 {
+        return Written::Bytes(0);
+    }
+    let sizes = block_sizes(radices);
+    let mut word = [0u8; 48];
+    let first = from as usize;
+    let words = count as usize;
+    up(radices, &sizes, &mut word, 0, first, words, out, 0);
+    let length = words * n;
+    Written::Bytes(length)
+}
