@@ -248,10 +248,10 @@ fn down(
                 row(word, n, a, last, a % 2 == 0, w.skip, w.left, out, w.at);
             } else {
                 word[i] = a;
-                if a % 2 == 0 {
-                    down(radices, sizes, word, i + 1, w.skip, w.left, out, w.at);
-                } else {
+                if a % 2 == 1 {
                     up(radices, sizes, word, i + 1, w.skip, w.left, out, w.at);
+                } else {
+                    down(radices, sizes, word, i + 1, w.skip, w.left, out, w.at);
                 }
             }
         }

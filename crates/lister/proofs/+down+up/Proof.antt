@@ -79,10 +79,10 @@ module _ (t : ℕ) where
     notch-reads.Learnt,
     row-reads.Asked,
     row-reads.Learnt,
-    down-below,
-    down.Post,
     up-below,
     up.Post,
+    down-below,
+    down.Post,
     past-reads.Asked,
     past-reads.Learnt,
   )
@@ -195,11 +195,11 @@ module _ (t : ℕ) where
   down-element-write-word : down-lts.Need-element-write-word down-callees down-at down.Post down-Inv-loop down-μ-loop
   down-element-write-word c = omega (arith, down-turn (c .before .before .before .before .before .before))
 
-  down-add-down : down-lts.Need-add-down down-callees down-at down.Post down-Inv-loop down-μ-loop
-  down-add-down c = omega (arith, down-turn (c .before .before .before .before .before .before .before .before))
+  down-add-up : down-lts.Need-add-up down-callees down-at down.Post down-Inv-loop down-μ-loop
+  down-add-up c = omega (arith, down-turn (c .before .before .before .before .before .before .before .before))
 
-  down-down-requires : down-lts.Need-down-requires down-callees down-at down.Post down-Inv-loop down-μ-loop
-  down-down-requires c κs =
+  down-up-requires : down-lts.Need-up-requires down-callees down-at down.Post down-Inv-loop down-μ-loop
+  down-up-requires c κs =
       let notch = c .before .before .before .before in
       let inside = notch .before in
       let head = inside .before .before .before .before in
@@ -207,11 +207,11 @@ module _ (t : ℕ) where
       let may = below-may turn (notch .notch .result) (inside .if3 .taken) (down-going (inside .before .before) .1) in
       (omega (arith, turn, head .before .before .before .before .before .before .before .pre .0), may)
 
-  down-add-up : down-lts.Need-add-up down-callees down-at down.Post down-Inv-loop down-μ-loop
-  down-add-up c = omega (arith, down-turn (c .before .before .before .before .before .before .before .before))
+  down-add-down : down-lts.Need-add-down down-callees down-at down.Post down-Inv-loop down-μ-loop
+  down-add-down c = omega (arith, down-turn (c .before .before .before .before .before .before .before .before))
 
-  down-up-requires : down-lts.Need-up-requires down-callees down-at down.Post down-Inv-loop down-μ-loop
-  down-up-requires c κs =
+  down-down-requires : down-lts.Need-down-requires down-callees down-at down.Post down-Inv-loop down-μ-loop
+  down-down-requires c κs =
       let notch = c .before .before .before .before in
       let inside = notch .before in
       let head = inside .before .before .before .before in
@@ -250,7 +250,7 @@ module _ (t : ℕ) where
       (w .11))
       (⊎-elim
       (λ w.
-      after-below turn _ _ _ _ _ going moved _ _ (w .0 .taken) some (w .1 .ensures) (same-if-even true _ _ (w .3 .taken))
+      after-below turn _ _ _ _ _ going moved _ _ (w .0 .taken) some (w .1 .ensures) (other-if-odd true _ (w .1 .result) (λ z. omega (arith, w .3 .taken)))
       _
       _
       (w .6 .ensures .0)
@@ -261,7 +261,7 @@ module _ (t : ℕ) where
       (w .10))
       (⊎-elim
       (λ w.
-      after-below turn _ _ _ _ _ going moved _ _ (w .0 .taken) some (w .1 .ensures) (other-if-odd true _ _ (w .3 .left))
+      after-below turn _ _ _ _ _ going moved _ _ (w .0 .taken) some (w .1 .ensures) (same-if-even true _ (w .1 .result) (omega (arith, w .3 .left)))
       _
       _
       (w .6 .ensures .0)
@@ -299,10 +299,10 @@ module _ (t : ℕ) where
       down-wide-requires-2
       down-row-requires
       down-element-write-word
-      down-add-down
-      down-down-requires
       down-add-up
       down-up-requires
+      down-add-down
+      down-down-requires
       down-past-requires
       down-add-u
       down-loop-less
