@@ -5,7 +5,7 @@ use gray::Counted;
 use gray::Written;
 use gray::size;
 ghost use mathlib.Core.Path.{_≡_};
-ghost use mathlib.Core.Bool.{Bool, true, false, cond};
+ghost use mathlib.Core.Bool.{true, false};
 ghost use mathlib.Core.List.{[], _∷_, _++_};
 ghost use Prim.Native.Nat.{_+_, _-_, _*_, _^_, _≤_, _<_};
 ghost use lib.Dec.{leb};
@@ -98,7 +98,7 @@ fn notch(m: usize, down: bool, u: usize) -> u8
     (if down { m - 1 - u } else { u }) as u8
 }
 
-// A word: the digits of `word` but the last two, and those.
+// A word of n digits: those of `word` but for the last two, which are a and b.
 fn put_word(word: &[u8; 48], n: usize, a: u8, b: u8, out: &mut [u8], at: usize)
     requires { ⌜ (length (now word) ≡ 48) × (2 ≤ n) × (n ≤ 48) × (at + n ≤ length (now out)) ⌝ }
     ensures { λ _. ⌜ now (out .exit) ≡ placed at (take (n - 2) (now (word .entry)) ++ (a ∷ b ∷ [])) (now (out .entry)) ⌝ }
@@ -111,6 +111,7 @@ fn put_word(word: &[u8; 48], n: usize, a: u8, b: u8, out: &mut [u8], at: usize)
     out[next] = b;
 }
 
+// What a lister has still to do: `skip` words to pass over, then `left` to write, the first of them at place `at`.
 struct Window {
     skip: usize,
     left: usize,
@@ -118,6 +119,7 @@ struct Window {
 }
 
 impl Window {
+    // After a block of q words of n bytes each. One that comes before the window costs a subtraction and nothing else.
     fn past(self, q: usize, n: usize) -> Window
         requires { ⌜ self .at + self .left * n < 2 ^ 64 ⌝ }
         ensures { λ r. ⌜ (r .skip ≡ self .skip - q) × (r .left ≡ self .left - (q - self .skip)) × (r .at + r .left * n ≡ self .at + self .left * n) ⌝ }
@@ -139,7 +141,8 @@ impl Window {
     }
 }
 
-// The words in which only the last digit moves.
+// The words in which only the last digit moves; a is the last but one. Neither is stored in `word`: to load bytes just after one
+// of them was stored takes long.
 fn row(
     word: &[u8; 48],
     n: usize,
@@ -164,6 +167,8 @@ fn row(
     }
 }
 
+// The upward lister: i digits stand fixed in `word`, and digit after digit of those that remain goes through its notches. After an
+// even notch the others are listed upward too, after an odd one downward.
 fn up(
     radices: &[u8],
     sizes: &[usize; 48],
@@ -212,6 +217,7 @@ fn up(
     }
 }
 
+// The downward lister, the other way round.
 fn down(
     radices: &[u8],
     sizes: &[usize; 48],
