@@ -73,8 +73,10 @@ fn put(word: &[u8; 48], k: usize, out: &mut [u8], at: usize)
         copy_by(8, word, k, out, at);
     } else if 4 <= k {
         copy_by(4, word, k, out, at);
-    } else {
-        copy(word, 0, k, out, at);
+    } else if 2 <= k {
+        copy_by(2, word, k, out, at);
+    } else if 1 <= k {
+        copy(word, 0, 1, out, at);
     }
 }
 
