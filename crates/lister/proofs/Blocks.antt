@@ -1,16 +1,14 @@
 -- Laws of a lister's loop over the notches of one digit: what the output holds after u of them, and what the next one adds.
-use Prim.Native.Nat.{ℕ, zero, suc, _+_, _-_, _*_, _%_, _^_, _≤_, _<_}
+use Prim.Native.Nat.{ℕ, zero, suc, _+_, _-_, _*_, _^_, _≤_, _<_}
 use mathlib.Core.Path.{_≡_, refl, sym, ap, _∙_}
 use mathlib.Core.Bool.{Bool, true, false, cond, not}
 use mathlib.Core.List.{List, [], _∷_, _++_, map, append-nil, map-append, map-id}
 use native.Mathlib.Nat.{add-zero, add-mul, mul-one, mul-le-mul-right, sub-add-eq}
 use native.Mathlib.Numerals.{add-one}
-use native.Mathlib.Decide.{decLt, ℕ-discrete}
+use native.Mathlib.Decide.{decLt}
 use native.Mathlib.Omega.{arith}
-use borrow.Author.Tests.{eq-eqb, ne-eqb}
-use lib.Dec.{eqb}
 use lib.ListN.{length, getD, take, drop, set, length-append, length-map, length-drop, length-set, drop-of-length-le}
-use lib.Seq.{drop-cons, length-take-le, take-suc-set}
+use lib.Seq.{drop-cons, length-take-le, take-suc-set, append-snoc}
 use Rattle.gray.specs.Radices.{size}
 use Rattle.gray.specs.Words.{even, upward, downward}
 use Rattle.lister.specs.Listers.{blocks, listing}
@@ -292,13 +290,15 @@ module _ (d : Bool) (radices sizes : List ℕ) (i skip left start : ℕ) (word�
       room = along-room;
     }
 
-    pub along-row : (m : ℕ) → s < size (drop (suc i) radices) → i + 2 ≡ length radices → m ≡ getD radices (i + 1) 0 → m < 256
-        → RowRoom word (length radices) m s t out at
+    -- what the writer of the last digit may rely on; of the word that it is given only the length counts
+    pub along-row : (given : List ℕ) (m : ℕ) → length given ≡ 48 → s < size (drop (suc i) radices) → 3 ≤ length radices
+        → i + 2 ≡ length radices → m ≡ getD radices (i + 1) 0 → m < 256
+        → RowRoom given (length radices) m s t out at
     unfolding size
-    along-row m begins last em byte = record {
-      two = omega arith;
+    along-row given m long begins three last em byte = record {
+      three = three;
       few = r .few;
-      long = a .long;
+      long = long;
       byte = byte;
       begun = rw (last-only radices i m last em, mul-one m) at begins;
       short = short;
@@ -312,38 +312,47 @@ pub wrote-below : (radices word out out′ : List ℕ) (d : Bool) (i b s t at : 
     → out′ ≡ laid at (take i word ++ (b ∷ [])) (window s t (listing d (drop (suc i) radices))) out
 wrote-below radices word out out′ d i b s t at h e = rw (add-one i, take-suc-set word i b h) at e
 
--- the writer of the last digit
-pub wrote-row : (radices word out out′ : List ℕ) (d : Bool) (i b m s t at : ℕ) → i + 2 ≡ length radices
-    → m ≡ getD radices (i + 1) 0
-    → out′ ≡ laid at (take (length radices - 2) word ++ (b ∷ [])) (window s t (listing d (m ∷ []))) out
+-- the writer of the last two digits
+pub wrote-square : (radices word out out′ : List ℕ) (d : Bool) (i b s t at : ℕ) → i + 3 ≡ length radices
+    → out′ ≡ laid at (take (length radices - 3) word ++ (b ∷ [])) (window s t (listing d (drop (length radices - 2) radices))) out
     → out′ ≡ laid at (take i word ++ (b ∷ [])) (window s t (listing d (drop (suc i) radices))) out
-wrote-row radices word out out′ d i b m s t at last em e =
-    let seam : length radices - 2 ≡ i = omega arith in
-    rw (last-only radices i m last em) (rw seam at e)
+wrote-square radices word out out′ d i b s t at last e =
+    let seam : length radices - 3 ≡ i = omega arith in
+    let next : length radices - 2 ≡ suc i = omega arith in
+    rw (seam, next) at e
 
--- the lister by the parity of the notch: as the code tests it
-pub same-if-even : (d : Bool) (ms : List ℕ) (b : ℕ) → b % 2 ≡ 0 → cond (even b) (listing d ms) (listing (not d) ms) ≡ listing d ms
-same-if-even d ms b e = rw (eq-eqb (b % 2) 0 e)
+-- the fixed digits where two remain, and a, the one before them, is not stored
+pub fixed-digits : (word : List ℕ) (n a : ℕ) → 3 ≤ n → n ≤ length word
+    → take (n - 2) (set word (n - 3) a) ≡ take (n - 3) word ++ (a ∷ [])
+fixed-digits word n a three few =
+    let next : n - 2 ≡ suc (n - 3) = omega arith in
+    ap (λ k. take k (set word (n - 3) a)) next ∙ take-suc-set word (n - 3) a (omega arith)
 
-pub other-if-odd : (d : Bool) (ms : List ℕ) (b : ℕ) → (b % 2 ≡ 0 → ⊥)
-    → cond (even b) (listing d ms) (listing (not d) ms) ≡ listing (not d) ms
-other-if-odd d ms b e = rw (ne-eqb (b % 2) 0 e)
+-- the writer of the last digit
+pub wrote-row : (radices word out out′ : List ℕ) (d : Bool) (a b m s t at : ℕ) → 3 ≤ length radices → length radices ≤ length word
+    → m ≡ getD radices (length radices - 2 + 1) 0
+    → out′ ≡ laid at (take (length radices - 3) word ++ (a ∷ b ∷ [])) (window s t (listing d (m ∷ []))) out
+    → out′
+    ≡ laid at (take (length radices - 2) (set word (length radices - 3) a) ++ (b ∷ []))
+    (window s t (listing d (drop (suc (length radices - 2)) radices))) out
+wrote-row radices word out out′ d a b m s t at three few em e =
+    rw (last-only radices (length radices - 2) m (omega arith) em)
+    (e ∙ ap (λ p. laid at p (window s t (listing d (m ∷ []))) out) (sym fixed))
+  where
+    fixed : take (length radices - 2) (set word (length radices - 3) a) ++ (b ∷ [])
+        ≡ take (length radices - 3) word ++ (a ∷ b ∷ [])
+    fixed =
+        ap (λ p. p ++ (b ∷ [])) (fixed-digits word (length radices) a three few)
+        ∙ append-snoc (take (length radices - 3) word) a (b ∷ [])
 
-pub up-row : (ms : List ℕ) (b : ℕ)
-    → cond (even b) (listing Bool.false ms) (listing (not Bool.false) ms) ≡ listing (eqb (b % 2) 1) ms
-up-row ms b =
-    elim (ℕ-discrete (b % 2) 0) [
-      | yes e ↦ same-if-even false ms b e ∙ ap (λ d. listing d ms) (sym (ne-eqb (b % 2) 1 (λ z. omega arith)))
-      | no e ↦ other-if-odd false ms b e ∙ ap (λ d. listing d ms) (sym (eq-eqb (b % 2) 1 (omega arith)))
-    ]
-
-pub down-row : (ms : List ℕ) (b : ℕ)
-    → cond (even b) (listing Bool.true ms) (listing (not Bool.true) ms) ≡ listing (eqb (b % 2) 0) ms
-down-row ms b =
-    elim (ℕ-discrete (b % 2) 0) [
-      | yes e ↦ same-if-even true ms b e ∙ ap (λ d. listing d ms) (sym (eq-eqb (b % 2) 0 e))
-      | no e ↦ other-if-odd true ms b e ∙ ap (λ d. listing d ms) (sym (ne-eqb (b % 2) 0 e))
-    ]
+-- the lister that the code chooses by the parity of the notch
+pub chosen-lister : (d : Bool) (ms : List ℕ) (b : ℕ)
+    → cond (even b) (listing d ms) (listing (not d) ms) ≡ listing (cond (even b) d (not d)) ms
+chosen-lister d ms b = go (even b)
+  where
+    go : (e : Bool) → cond e (listing d ms) (listing (not d) ms) ≡ listing (cond e d (not d)) ms
+    go true = refl
+    go false = refl
 
 -- no digit remains: the word itself
 pub base-word : (d : Bool) (radices sizes : List ℕ) (i skip left start : ℕ) (word out out′ : List ℕ)

@@ -5,9 +5,9 @@ use native.Mathlib.Nat.{mul-le-mul-right, mul-one, sub-self, suc-mul, zero-mul}
 use native.Mathlib.Omega.{arith}
 use mathlib.Core.Path.{_≡_, refl, sym, ap, ap₂, _∙_}
 use mathlib.Core.Bool.{Bool, true, false, cond}
-use mathlib.Core.List.{List, [], _∷_, _++_, map, flatten, append-assoc, append-nil}
+use mathlib.Core.List.{List, [], _∷_, _++_, map, flatten, append-assoc, append-nil, map-append}
 use lib.ListN.{length, getD, take, drop, length-append, length-drop, List·getD-map}
-use lib.Seq.{append-snoc, length-take-le, take-all, take-suc, getD-drop}
+use lib.Seq.{length-take-le, take-all, take-suc, getD-drop}
 use Rattle.gray.specs.Radices.{size}
 use Rattle.gray.specs.Members.{getD-upward, getD-downward}
 use Rattle.gray.specs.Words.{even, upward, downward}
@@ -15,6 +15,7 @@ use Rattle.lister.specs.Listers.{blocks, listing}
 use Rattle.lister.specs.Outputs.{placed, window, laid, notchAfter, RowRoom}
 use Rattle.lister.specs.Reflections.{length-listing}
 use Rattle.lister.proofs.Places.{placed-none, length-placed, placed-append}
+use Rattle.lister.proofs.Windows.{flatten-append}
 
 -- ---- the words of one digit
 -- where no digit remains, the words are the notches
@@ -65,14 +66,6 @@ window-enough s t end words e =
       | no q ↦ take-all (end - s) (drop s words) (omega arith) ∙ sym (take-all t (drop s words) (omega arith))
     ]
 
-flatten-more : (fixed w : List ℕ) (words : List (List ℕ))
-    → flatten (map (λ v. fixed ++ v) (words ++ (w ∷ []))) ≡ flatten (map (λ v. fixed ++ v) words) ++ (fixed ++ w)
-unfolding flatten
-flatten-more fixed w [] = append-nil (fixed ++ w)
-flatten-more fixed w (v ∷ words) =
-    ap (λ l. fixed ++ v ++ l) (flatten-more fixed w words)
-    ∙ sym (append-assoc (fixed ++ v) (flatten (map (λ v. fixed ++ v) words)) (fixed ++ w))
-
 -- ---- the writer's loop
 -- the bytes of the words from word `skip` on that come before word u, each after the digits that are fixed
 unfoldable pub rowBytes : List ℕ → Bool → ℕ → ℕ → ℕ → List ℕ
@@ -82,7 +75,7 @@ row-bytes-more : (fixed : List ℕ) (down : Bool) (m skip u : ℕ)
     → skip ≤ u
     → u < m
     → rowBytes fixed down m skip (u + 1) ≡ rowBytes fixed down m skip u ++ (fixed ++ (notchAfter down m u ∷ []))
-unfolding rowBytes
+unfolding rowBytes flatten
 row-bytes-more fixed down m skip u from below =
     let one : u + 1 - skip ≡ suc (u - skip) = omega arith in
     let place : skip + (u - skip) ≡ u = omega arith in
@@ -91,11 +84,11 @@ row-bytes-more fixed down m skip u from below =
     window-more skip (u - skip) words (0 ∷ []) (omega (arith, row-length down m))
     ∙ ap (λ k. window skip (u - skip) words ++ (getD words k (0 ∷ []) ∷ [])) place
     ∙ ap (λ w. window skip (u - skip) words ++ (w ∷ [])) (row-word down m u below) in
-    rw (one, grown) (flatten-more fixed (notchAfter down m u ∷ []) (window skip (u - skip) words))
+    rw (one, grown, map-append, flatten-append, append-nil)
 
--- the digits of a word that stay: those of `word` but the last two, and a
-abbrev pub staying : List ℕ → ℕ → ℕ → List ℕ
-staying word n a = take (n - 2) word ++ (a ∷ [])
+-- the digits of a word that stay: those of `word` but the last three, and a and b
+abbrev pub staying : List ℕ → ℕ → ℕ → ℕ → List ℕ
+staying word n a b = take (n - 3) word ++ (a ∷ b ∷ [])
 
 -- the output before word u, which goes to place `at`
 pub record Rowed (fixed : List ℕ) (n : ℕ) (down : Bool) (m skip end start : ℕ) (out₀ out : List ℕ) (at u : ℕ) : Type 0 where
@@ -106,31 +99,31 @@ pub record Rowed (fixed : List ℕ) (n : ℕ) (down : Bool) (m skip end start : 
   pub same : length out ≡ length out₀
   pub holds : out ≡ placed start (rowBytes fixed down m skip u) out₀
 
-module _ (word : List ℕ) (n a : ℕ) (down : Bool) (m skip left : ℕ) (out₀ : List ℕ) (start end : ℕ)
+module _ (word : List ℕ) (n a b : ℕ) (down : Bool) (m skip left : ℕ) (out₀ : List ℕ) (start end : ℕ)
     (r : RowRoom word n m skip left out₀ start) (ends : end ≡ m - (m - (skip + left))) where
   -- each word has n digits
-  length-word : (b : ℕ) → length (staying word n a ++ (b ∷ [])) ≡ n
-  length-word b =
-      let taken = length-take-le (n - 2) word (omega arith) in
-      let fixed = length-append (take (n - 2) word) (a ∷ []) in
-      let whole = length-append (staying word n a) (b ∷ []) in
+  length-word : (c : ℕ) → length (staying word n a b ++ (c ∷ [])) ≡ n
+  length-word c =
+      let taken = length-take-le (n - 3) word (omega arith) in
+      let fixed = length-append (take (n - 3) word) (a ∷ b ∷ []) in
+      let whole = length-append (staying word n a b) (c ∷ []) in
       omega arith
 
-  pub row-begun : Rowed (staying word n a) n down m skip end start out₀ out₀ start skip
+  pub row-begun : Rowed (staying word n a b) n down m skip end start out₀ out₀ start skip
   unfolding rowBytes window flatten
   row-begun =
       let none : (skip - skip) * n ≡ 0 = rw (sub-self skip) (zero-mul n) in
-      let empty : rowBytes (staying word n a) down m skip skip ≡ [] = rw (sub-self skip) in
+      let empty : rowBytes (staying word n a b) down m skip skip ≡ [] = rw (sub-self skip) in
       record {
         from = omega arith;
         upto = omega arith;
         place = omega arith;
         long = ap length empty ∙ sym none;
         same = refl;
-        holds = sym (ap (λ b. placed start b out₀) empty ∙ placed-none start out₀);
+        holds = sym (ap (λ l. placed start l out₀) empty ∙ placed-none start out₀);
       }
 
-  module _ (out : List ℕ) (at u : ℕ) (w : Rowed (staying word n a) n down m skip end start out₀ out at u) where
+  module _ (out : List ℕ) (at u : ℕ) (w : Rowed (staying word n a b) n down m skip end start out₀ out at u) where
     place-more : (u + 1 - skip) * n ≡ (u - skip) * n + n
     place-more =
         let one : u + 1 - skip ≡ suc (u - skip) = omega arith in
@@ -143,41 +136,41 @@ module _ (word : List ℕ) (n a : ℕ) (down : Bool) (m skip left : ℕ) (out₀
         omega (arith, place-more)
 
     -- with word u written
-    pub row-again : (out′ : List ℕ) (b : ℕ)
+    pub row-again : (out′ : List ℕ) (c : ℕ)
         → u < end
-        → b ≡ notchAfter down m u
-        → out′ ≡ placed at (take (n - 2) word ++ (a ∷ b ∷ [])) out
-        → Rowed (staying word n a) n down m skip end start out₀ out′ (at + n) (u + 1)
-    row-again out′ b h notch wrote =
-        let bytes = rowBytes (staying word n a) down m skip u in
-        let more : rowBytes (staying word n a) down m skip (u + 1) ≡ bytes ++ (staying word n a ++ (b ∷ [])) =
-        row-bytes-more (staying word n a) down m skip u (w .from) (omega arith)
-        ∙ ap (λ x. bytes ++ (staying word n a ++ (x ∷ []))) (sym notch) in
-        let put : out′ ≡ placed at (staying word n a ++ (b ∷ [])) out =
-        wrote ∙ ap (λ l. placed at l out) (sym (append-snoc (take (n - 2) word) a (b ∷ []))) in
+        → c ≡ notchAfter down m u
+        → out′ ≡ placed at (take (n - 3) word ++ (a ∷ b ∷ c ∷ [])) out
+        → Rowed (staying word n a b) n down m skip end start out₀ out′ (at + n) (u + 1)
+    row-again out′ c h notch wrote =
+        let bytes = rowBytes (staying word n a b) down m skip u in
+        let more : rowBytes (staying word n a b) down m skip (u + 1) ≡ bytes ++ (staying word n a b ++ (c ∷ [])) =
+        row-bytes-more (staying word n a b) down m skip u (w .from) (omega arith)
+        ∙ ap (λ x. bytes ++ (staying word n a b ++ (x ∷ []))) (sym notch) in
+        let put : out′ ≡ placed at (staying word n a b ++ (c ∷ [])) out =
+        wrote ∙ ap (λ l. placed at l out) (sym (append-assoc (take (n - 3) word) (a ∷ b ∷ []) (c ∷ []))) in
         let room = row-room h in
-        let wide = length-word b in
+        let wide = length-word c in
         let here : at ≡ start + length bytes = omega (arith, w .place, w .long) in
         record {
           from = omega arith;
           upto = omega arith;
           place = omega (arith, place-more);
-          long = ap length more ∙ length-append bytes (staying word n a ++ (b ∷ [])) ∙ omega (arith, place-more);
-          same = ap length put ∙ length-placed at (staying word n a ++ (b ∷ [])) out (omega arith) ∙ w .same;
+          long = ap length more ∙ length-append bytes (staying word n a b ++ (c ∷ [])) ∙ omega (arith, place-more);
+          same = ap length put ∙ length-placed at (staying word n a b ++ (c ∷ [])) out (omega arith) ∙ w .same;
           holds =
               put
-              ∙ ap₂ (λ k l. placed k (staying word n a ++ (b ∷ [])) l) here (w .holds)
-              ∙ placed-append start bytes (staying word n a ++ (b ∷ [])) out₀ (omega arith)
+              ∙ ap₂ (λ k l. placed k (staying word n a b ++ (c ∷ [])) l) here (w .holds)
+              ∙ placed-append start bytes (staying word n a b ++ (c ∷ [])) out₀ (omega arith)
               ∙ ap (λ l. placed start l out₀) (sym more);
         }
 
     -- the last word before `end` was the last of the window
-    pub row-ended : end ≤ u → out ≡ laid start (staying word n a) (window skip left (listing down (m ∷ []))) out₀
+    pub row-ended : end ≤ u → out ≡ laid start (staying word n a b) (window skip left (listing down (m ∷ []))) out₀
     unfolding laid rowBytes
     row-ended h =
         let last : u ≡ end = omega arith in
         let words = listing down (m ∷ []) in
         let long : end ≡ length words - (length words - (skip + left)) = rw (row-length down m) ends in
         w .holds
-        ∙ ap (λ k. placed start (flatten (map (λ v. staying word n a ++ v) (window skip (k - skip) words))) out₀) last
-        ∙ ap (λ ws. placed start (flatten (map (λ v. staying word n a ++ v) ws)) out₀) (window-enough skip left end words long)
+        ∙ ap (λ k. placed start (flatten (map (λ v. staying word n a b ++ v) (window skip (k - skip) words))) out₀) last
+        ∙ ap (λ ws. placed start (flatten (map (λ v. staying word n a b ++ v) ws)) out₀) (window-enough skip left end words long)

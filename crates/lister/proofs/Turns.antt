@@ -1,11 +1,11 @@
--- A turn of a lister's loop, for `up` and `down` alike: what is known where it begins, and what its steps want of that.
+-- A turn of a lister's loop, for `up`, `down` and `square` alike: what is known where it begins, and what its steps want of that.
 use Prim.Native.Nat.{ℕ, suc, _+_, _-_, _*_, _^_, _≤_, _<_}
 use native.Mathlib.Omega.{arith}
-use mathlib.Core.Path.{_≡_, sym, ap, subst, _∙_}
+use mathlib.Core.Path.{_≡_, refl, sym, ap, subst, _∙_}
 use mathlib.Core.Bool.{Bool, true, false, cond, not, _&&_, and-eq-true-iff}
 use mathlib.Core.List.{List, [], _∷_, _++_}
 use lib.Dec.{ltb}
-use lib.ListN.{length, getD, take, drop, set}
+use lib.ListN.{length, getD, take, drop, set, length-set}
 use lib.Seq.{take-take, take-set-le}
 use borrow.Author.Tests.{ltb-true, ltb-false, lt-ltb}
 use Rattle.gray.specs.Radices.{size}
@@ -22,6 +22,9 @@ use Rattle.lister.proofs.Blocks.{
   along-room,
   wrote-below,
   wrote-row,
+  wrote-square,
+  chosen-lister,
+  fixed-digits,
 }
 
 -- what is known where a turn begins: u of the m notches are passed, and each has q words
@@ -38,9 +41,9 @@ pub record Turn (d : Bool) (radices sizes : List ℕ) (i skip left start : ℕ) 
 abbrev pub Moved : (n q s t at s′ t′ at′ : ℕ) → Type 0
 Moved n q s t at s′ t′ at′ = (s′ ≡ s - q) × (t′ ≡ t - (q - s)) × (at′ + t′ * n ≡ at + t * n)
 
--- the words that follow notch b are those of one of the two listers
-abbrev pub Follows : (d : Bool) (ms : List ℕ) (b : ℕ) (way : Bool) → Type 0
-Follows d ms b way = cond (even b) (listing d ms) (listing (not d) ms) ≡ listing way ms
+-- the lister whose words follow notch b
+abbrev pub Follows : (d : Bool) (b : ℕ) (way : Bool) → Type 0
+Follows d b way = way ≡ cond (even b) d (not d)
 
 -- the loop's test
 module _ (u m t : ℕ) where
@@ -66,11 +69,16 @@ module _ {d : Bool} {radices sizes : List ℕ} {i skip left start : ℕ} {word�
       along-below d radices sizes i skip left start word₀ out₀ (turn .reached) (turn .more) word out u s t at (turn .along) b
       (omega (arith, turn .block)) some
 
-  pub row-may : (last : ℕ) → s < q → i + 2 ≡ length radices → last ≡ getD radices (i + 1) 0 → last < 256
-      → RowRoom word (length radices) last s t out at
-  row-may last begins two el byte =
-      along-row d radices sizes i skip left start word₀ out₀ (turn .reached) (turn .more) word out u s t at (turn .along) last
-      (omega (arith, turn .block)) two el byte
+  pub square-may : (b : ℕ) → s < q → 0 < t → i + 3 ≡ length radices
+      → (3 ≤ length radices)
+      × Reached radices sizes (set word (length radices - 3) b) (length radices - 2) s t out at
+  square-may b begins some three =
+      let seam : i ≡ length radices - 3 = omega arith in
+      let next : i + 1 ≡ length radices - 2 = omega arith in (
+        omega arith,
+        subst (λ k. Reached radices sizes (set word k b) (length radices - 2) s t out at) seam
+            (subst (λ k. Reached radices sizes (set word i b) k s t out at) next (below-may b begins some)),
+      )
 
   pub past-may : length out₀ < 2 ^ 64 → at + t * length radices < 2 ^ 64
   past-may fits =
@@ -104,7 +112,7 @@ module _ {d : Bool} {radices sizes : List ℕ} {i skip left start : ℕ} {word�
 
     -- some of them are in it, and those were written: b is the notch, and `way` the lister whose words follow it
     module _ (b : ℕ) (way : Bool) (begins : s < q) (some : 0 < t) (notch : b ≡ notchAfter d m u)
-        (follows : Follows d (drop (suc i) radices) b way) where
+        (follows : Follows d b way) where
       after-wrote : out′ ≡ laid at (take i word ++ (b ∷ [])) (window s t (listing way (drop (suc i) radices))) out
           → take i word′ ≡ take i word → length word′ ≡ 48 → length out′ ≡ length out → Next
       after-wrote wrote kept long same =
@@ -114,19 +122,23 @@ module _ {d : Bool} {radices sizes : List ℕ} {i skip left start : ℕ} {word�
           (omega (arith, turn .block))
           some
           (notch ∙ ap (λ x. notchAfter d x u) (turn .radix))
-          (wrote ∙ ap (λ x. laid at (take i word ++ (b ∷ [])) (window s t x) out) (sym follows))
+          (wrote
+          ∙ ap (λ x. laid at (take i word ++ (b ∷ [])) (window s t (listing x (drop (suc i) radices))) out) follows
+          ∙ ap (λ x. laid at (take i word ++ (b ∷ [])) (window s t x) out) (sym (chosen-lister d (drop (suc i) radices) b)))
           kept long same
           (omega (arith, turn .block, moved .0))
           (omega (arith, turn .block, moved .1))
           (moved .2)
 
-      -- by the writer of the last digit
-      pub after-row : (last : ℕ) (out″ : List ℕ) → i + 2 ≡ length radices → last ≡ getD radices (i + 1) 0
-          → out″ ≡ laid at (take (length radices - 2) word ++ (b ∷ [])) (window s t (listing way (last ∷ []))) out
+      -- by the writer of the last two digits
+      pub after-square : (out″ : List ℕ) → i + 3 ≡ length radices
+          → out″
+          ≡ laid at (take (length radices - 3) word ++ (b ∷ []))
+          (window s t (listing way (drop (length radices - 2) radices))) out
           → length out″ ≡ length out → word′ ≡ word → out′ ≡ out″ → Next
-      after-row last out″ two el wrote same ew eo =
+      after-square out″ three wrote same ew eo =
           after-wrote
-          (wrote-row radices word out out′ way i b last s t at two el (eo ∙ wrote))
+          (wrote-square radices word out out′ way i b s t at three (eo ∙ wrote))
           (ap (take i) ew)
           (ap length ew ∙ turn .along .long)
           (ap length eo ∙ same)
@@ -143,3 +155,48 @@ module _ {d : Bool} {radices sizes : List ℕ} {i skip left start : ℕ} {word�
           (ap (take i) ew ∙ shorter word″ (set word i b) i (i + 1) (omega arith) kept ∙ take-set-le i word i b (omega arith))
           (ap length ew ∙ long)
           (ap length eo ∙ same)
+
+-- where two digits remain, and the one before them is a, which is not stored
+module _ {d : Bool} {radices sizes : List ℕ} {skip left start : ℕ} {out₀ : List ℕ} {m q : ℕ} {out : List ℕ} {u s t at : ℕ}
+    (word : List ℕ) (a : ℕ) (three : 3 ≤ length radices)
+    (turn : Turn d radices sizes (length radices - 2) skip left start (set word (length radices - 3) a) out₀ m q
+    (set word (length radices - 3) a) out u s t at) where
+  -- the word with a in its place
+  abbrev whole : List ℕ
+  whole = set word (length radices - 3) a
+
+  long : length word ≡ 48
+  long = sym (length-set word (length radices - 3) a) ∙ turn .reached .long
+
+  fits : length radices ≤ length word
+  fits = omega (arith, long, turn .reached .few)
+
+  -- the loop is left
+  pub left-square : (u < m → 0 < t → ⊥)
+      → out
+      ≡ laid start (take (length radices - 3) word ++ (a ∷ []))
+      (window skip left (listing d (drop (length radices - 2) radices))) out₀
+  left-square stops =
+      left-off turn stops
+      ∙ ap (λ p. laid start p (window skip left (listing d (drop (length radices - 2) radices))) out₀)
+      (fixed-digits word (length radices) a three fits)
+
+  module _ (last : ℕ) (radix : last ≡ getD radices (length radices - 2 + 1) 0) where
+    -- what the writer of the last digit may rely on
+    pub row-may : s < q → last < 256 → RowRoom word (length radices) last s t out at
+    row-may begins byte =
+        along-row d radices sizes (length radices - 2) skip left start whole out₀ (turn .reached) (turn .more) whole out u s t at
+        (turn .along) word last long (omega (arith, turn .block)) three (omega arith) radix byte
+
+    -- where the next turn begins, when that has written its words
+    pub after-row : (out′ : List ℕ) (s′ t′ at′ : ℕ) → u < m → Moved (length radices) q s t at s′ t′ at′
+        → (b : ℕ) (way : Bool) → s < q → 0 < t → b ≡ notchAfter d m u → Follows d b way → (out″ : List ℕ)
+        → out″ ≡ laid at (take (length radices - 3) word ++ (a ∷ b ∷ [])) (window s t (listing way (last ∷ []))) out
+        → length out″ ≡ length out → out′ ≡ out″
+        → Along d radices (length radices - 2) skip left start whole out₀ whole out′ (u + 1) s′ t′ at′
+    after-row out′ s′ t′ at′ going moved b way begins some notch follows out″ wrote same eo =
+        after-wrote turn whole out′ s′ t′ at′ going moved b way begins some notch follows
+        (wrote-row radices word out out′ way a b last s t at three fits radix (eo ∙ wrote))
+        refl
+        (turn .reached .long)
+        (ap length eo ∙ same)

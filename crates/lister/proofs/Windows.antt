@@ -124,7 +124,7 @@ each-listing d (m ∷ ms) =
     (each-listing d ms) (each-listing (not d) ms)
 
 -- ---- words laid in an output
-flatten-append : (a b : List (List ℕ)) → flatten (a ++ b) ≡ flatten a ++ flatten b
+pub flatten-append : (a b : List (List ℕ)) → flatten (a ++ b) ≡ flatten a ++ flatten b
 unfolding flatten
 flatten-append [] b = refl
 flatten-append (w ∷ a) b = ap (λ r. w ++ r) (flatten-append a b) ∙ sym (append-assoc w (flatten a) (flatten b))

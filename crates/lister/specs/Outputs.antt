@@ -41,7 +41,7 @@ pub record Reached (radices sizes word : List ℕ) (i s t : ℕ) (out : List ℕ
 
 -- what the writer of one digit's words may rely on
 pub record RowRoom (word : List ℕ) (n m s t : ℕ) (out : List ℕ) (at : ℕ) : Type 0 where
-  pub two : 2 ≤ n
+  pub three : 3 ≤ n
   pub few : n ≤ 48
   pub long : length word ≡ 48
   pub byte : m < 256

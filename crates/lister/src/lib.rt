@@ -5,14 +5,15 @@ use gray::Counted;
 use gray::Written;
 use gray::size;
 ghost use mathlib.Core.Path.{_≡_};
-ghost use mathlib.Core.Bool.{true, false};
+ghost use mathlib.Core.Bool.{true, false, not, cond};
 ghost use mathlib.Core.List.{[], _∷_, _++_};
 ghost use Prim.Native.Nat.{_+_, _-_, _*_, _^_, _≤_, _<_};
 ghost use lib.Dec.{leb};
-ghost use lib.ListN.{length, take, drop};
+ghost use lib.ListN.{length, take, drop, set};
 ghost use Rattle.gray.specs.Answers.{Wrote};
 ghost use Rattle.gray.specs.Calls.{writtenAs};
 ghost use Rattle.gray.specs.Radices.{size as sizeOf, allFrom};
+ghost use Rattle.gray.specs.Words.{even};
 ghost use Rattle.lister.specs.Listers.{listing};
 ghost use Rattle.lister.specs.Calls.{listCall};
 ghost use Rattle.lister.specs.Outputs.{placed, window, laid, notchAfter, Sized, Reached, RowRoom};
@@ -100,17 +101,26 @@ fn notch(m: usize, down: bool, u: usize) -> u8
     (if down { m - 1 - u } else { u }) as u8
 }
 
-// A word of n digits: those of `word` but for the last two, which are a and b.
-fn put_word(word: &[u8; 48], n: usize, a: u8, b: u8, out: &mut [u8], at: usize)
-    requires { ⌜ (length (now word) ≡ 48) × (2 ≤ n) × (n ≤ 48) × (at + n ≤ length (now out)) ⌝ }
-    ensures { λ _. ⌜ now (out .exit) ≡ placed at (take (n - 2) (now (word .entry)) ++ (a ∷ b ∷ [])) (now (out .entry)) ⌝ }
+// The lister of the digits after one at notch a: the same after an even notch, the other after an odd one.
+fn turn(a: u8, down: bool) -> bool
+    ensures { λ r. ⌜ r ≡ cond (even a) down (not down) ⌝ }
 {
-    let k = n - 2;
+    if a % 2 == 0 { down } else { !down }
+}
+
+// A word of n digits: those of `word` but for the last three, which are a, b and c.
+fn put_word(word: &[u8; 48], n: usize, a: u8, b: u8, c: u8, out: &mut [u8], at: usize)
+    requires { ⌜ (length (now word) ≡ 48) × (3 ≤ n) × (n ≤ 48) × (at + n ≤ length (now out)) ⌝ }
+    ensures { λ _. ⌜ now (out .exit) ≡ placed at (take (n - 3) (now (word .entry)) ++ (a ∷ b ∷ c ∷ [])) (now (out .entry)) ⌝ }
+{
+    let k = n - 3;
     put(word, k, out, at);
     let place = at + k;
     out[place] = a;
     let next = place + 1;
     out[next] = b;
+    let last = place + 2;
+    out[last] = c;
 }
 
 // What a lister has still to do: `skip` words to pass over, then `left` to write, the first of them at place `at`.
@@ -143,12 +153,12 @@ impl Window {
     }
 }
 
-// The words in which only the last digit moves; a is the last but one. Neither is stored in `word`: to load bytes just after one
-// of them was stored takes long.
+// The words in which only the last digit moves; a and b are the two before it.
 fn row(
     word: &[u8; 48],
     n: usize,
     a: u8,
+    b: u8,
     m: usize,
     down: bool,
     skip: usize,
@@ -157,14 +167,52 @@ fn row(
     start: usize,
 )
     requires { ⌜ RowRoom (now word) n m skip left (now out) start ⌝ }
-    ensures { λ _. ⌜ now (out .exit) ≡ laid start (take (n - 2) (now (word .entry)) ++ (a ∷ [])) (window skip left (listing down (m ∷ []))) (now (out .entry)) ⌝ }
+    ensures { λ _. ⌜ now (out .exit) ≡ laid start (take (n - 3) (now (word .entry)) ++ (a ∷ b ∷ [])) (window skip left (listing down (m ∷ []))) (now (out .entry)) ⌝ }
 {
     let end = less(m, skip + left);
     let mut at = start;
     let mut u = skip;
     while u < end {
-        put_word(word, n, a, notch(m, down, u), out, at);
+        put_word(word, n, a, b, notch(m, down, u), out, at);
         at += n;
+        u += 1;
+    }
+}
+
+// The words in which only the last two digits move; a is the one before them. None of the three is stored in `word`: to load bytes
+// just after one of them was stored takes long.
+fn square(
+    radices: &[u8],
+    sizes: &[usize; 48],
+    word: &[u8; 48],
+    a: u8,
+    down: bool,
+    skip: usize,
+    left: usize,
+    out: &mut [u8],
+    start: usize,
+)
+    requires { ⌜ (3 ≤ length (now radices)) × Reached (now radices) (now sizes) (set (now word) (length (now radices) - 3) a) (length (now radices) - 2) skip left (now out) start ⌝ }
+    ensures { λ _. ⌜ now (out .exit) ≡ laid start (take (length (now (radices .entry)) - 3) (now (word .entry)) ++ (a ∷ [])) (window skip left (listing down (drop (length (now (radices .entry)) - 2) (now (radices .entry))))) (now (out .entry)) ⌝ }
+{
+    let n = radices.len();
+    let i = n - 2;
+    let m = wide(radices[i]);
+    let last = wide(radices[i + 1]);
+    let q = sizes[i];
+    let mut w = Window {
+        skip: skip,
+        left: left,
+        at: start,
+    };
+    let mut u = 0;
+    while (u < m) & (0 < w.left) {
+        if w.skip < q {
+            let b = notch(m, down, u);
+            let downward = turn(b, down);
+            row(word, n, a, b, last, downward, w.skip, w.left, out, w.at);
+        }
+        w = w.past(q, n);
         u += 1;
     }
 }
@@ -202,15 +250,15 @@ fn up(
     while (u < m) & (0 < w.left) {
         if w.skip < q {
             let a = notch(m, false, u);
-            if i + 2 == n {
-                let last = wide(radices[i + 1]);
-                row(word, n, a, last, a % 2 == 1, w.skip, w.left, out, w.at);
+            let downward = turn(a, false);
+            if i + 3 == n {
+                square(radices, sizes, word, a, downward, w.skip, w.left, out, w.at);
             } else {
                 word[i] = a;
-                if a % 2 == 0 {
-                    up(radices, sizes, word, i + 1, w.skip, w.left, out, w.at);
-                } else {
+                if downward {
                     down(radices, sizes, word, i + 1, w.skip, w.left, out, w.at);
+                } else {
+                    up(radices, sizes, word, i + 1, w.skip, w.left, out, w.at);
                 }
             }
         }
@@ -251,15 +299,15 @@ fn down(
     while (u < m) & (0 < w.left) {
         if w.skip < q {
             let a = notch(m, true, u);
-            if i + 2 == n {
-                let last = wide(radices[i + 1]);
-                row(word, n, a, last, a % 2 == 0, w.skip, w.left, out, w.at);
+            let downward = turn(a, true);
+            if i + 3 == n {
+                square(radices, sizes, word, a, downward, w.skip, w.left, out, w.at);
             } else {
                 word[i] = a;
-                if a % 2 == 1 {
-                    up(radices, sizes, word, i + 1, w.skip, w.left, out, w.at);
-                } else {
+                if downward {
                     down(radices, sizes, word, i + 1, w.skip, w.left, out, w.at);
+                } else {
+                    up(radices, sizes, word, i + 1, w.skip, w.left, out, w.at);
                 }
             }
         }

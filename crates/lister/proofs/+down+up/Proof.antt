@@ -2,23 +2,23 @@
 -- number of digits from i on. The invariant of both loops is `Along`, and `Turns` says what a turn does to it. Assumes nothing.
 use Prim.Native.Nat.{ℕ, _-_, _<_}
 use native.Mathlib.Omega.{arith}
-use mathlib.Core.Path.{refl}
+use mathlib.Core.Path.{refl, sym, _∙_}
 use mathlib.Core.Logic.{⊎-elim}
 use mathlib.Core.Bool.{true, false}
 use lib.ListN.{length, getD}
 use borrow.Fn.Kinds.{In}
 use borrow.Fn.PlainCycle.{Measures, is, falls, and}
-use Rattle.lister.proofs.Blocks.{Along, along-none, base-word, base-room, same-if-even, other-if-odd, up-row, down-row}
+use Rattle.lister.proofs.Blocks.{Along, along-none, base-word, base-room}
 use Rattle.lister.proofs.Turns.{
   Turn,
   goes-on,
   ends,
   below-may,
-  row-may,
+  square-may,
   past-may,
   left-off,
   after-none,
-  after-row,
+  after-square,
   after-below,
 }
 use Rattle.lister.proofs.down.Reads as down
@@ -30,7 +30,8 @@ use Rattle.lister.proofs.+down+up.Lts-up as up-lts
 use Rattle.lister.proofs.Window.past.Reads as past-reads
 use Rattle.lister.proofs.notch.Reads as notch-reads
 use Rattle.lister.proofs.put.Reads as put-reads
-use Rattle.lister.proofs.row.Reads as row-reads
+use Rattle.lister.proofs.square.Reads as square-reads
+use Rattle.lister.proofs.turn.Reads as turn-reads
 use Rattle.lister.proofs.wide.Reads as wide-reads
 use Rattle.lister.proofs.+down+up.{statement}
 use Rattle.lister.proofs.+down+up.Tie.{close}
@@ -77,12 +78,14 @@ module _ (t : ℕ) where
     wide-reads.Learnt,
     notch-reads.Asked,
     notch-reads.Learnt,
-    row-reads.Asked,
-    row-reads.Learnt,
-    up-below,
-    up.Post,
+    turn-reads.Asked,
+    turn-reads.Learnt,
+    square-reads.Asked,
+    square-reads.Learnt,
     down-below,
     down.Post,
+    up-below,
+    up.Post,
     past-reads.Asked,
     past-reads.Learnt,
   )
@@ -95,12 +98,14 @@ module _ (t : ℕ) where
     wide-reads.Learnt,
     notch-reads.Asked,
     notch-reads.Learnt,
-    row-reads.Asked,
-    row-reads.Learnt,
-    up-below,
-    up.Post,
+    turn-reads.Asked,
+    turn-reads.Learnt,
+    square-reads.Asked,
+    square-reads.Learnt,
     down-below,
     down.Post,
+    up-below,
+    up.Post,
     past-reads.Asked,
     past-reads.Learnt,
   )
@@ -172,47 +177,40 @@ module _ (t : ℕ) where
       let going = c .before .before in
       (down-going going .0, going .before .before .before .before .wide .ensures .1)
 
+  down-turn-requires : down-lts.Need-turn-requires down-callees down-at down.Post down-Inv-loop down-μ-loop
+  down-turn-requires c κs = tt
+
   down-add-if4 : down-lts.Need-add-if4 down-callees down-at down.Post down-Inv-loop down-μ-loop
-  down-add-if4 c = omega (arith, down-turn (c .before .before .before .before .before))
+  down-add-if4 c = omega (arith, down-turn (c .before .before .before .before .before .before))
 
-  down-add-wide : down-lts.Need-add-wide down-callees down-at down.Post down-Inv-loop down-μ-loop
-  down-add-wide c = omega (arith, down-turn (c .before .before .before .before .before .before))
-
-  down-shared-slice-read-wide-2 : down-lts.Need-shared-slice-read-wide-2 down-callees down-at down.Post down-Inv-loop down-μ-loop
-  down-shared-slice-read-wide-2 c = omega (arith, c .before .if4 .taken)
-
-  down-wide-requires-2 : down-lts.Need-wide-requires-2 down-callees down-at down.Post down-Inv-loop down-μ-loop
-  down-wide-requires-2 c κs = tt
-
-  down-row-requires : down-lts.Need-row-requires down-callees down-at down.Post down-Inv-loop down-μ-loop
-  down-row-requires c κs =
-      let last = c .before .before in
-      let two = last .before .before in
-      let inside = two .before .before in
-      let turn = down-turn (inside .before .before .before .before) in
-      row-may turn _ (inside .if3 .taken) (two .if4 .taken) (last .wide2 .ensures .0) (last .wide2 .ensures .1)
+  down-square-requires : down-lts.Need-square-requires down-callees down-at down.Post down-Inv-loop down-μ-loop
+  down-square-requires c κs =
+      let three = c .before .before in
+      let inside = three .before .before .before in
+      square-may (down-turn (inside .before .before .before .before)) (three .before .before .notch .result) (inside .if3 .taken)
+      (down-going (inside .before .before) .1) (three .if4 .taken)
 
   down-element-write-word : down-lts.Need-element-write-word down-callees down-at down.Post down-Inv-loop down-μ-loop
-  down-element-write-word c = omega (arith, down-turn (c .before .before .before .before .before .before))
+  down-element-write-word c = omega (arith, down-turn (c .before .before .before .before .before .before .before))
 
-  down-add-up : down-lts.Need-add-up down-callees down-at down.Post down-Inv-loop down-μ-loop
-  down-add-up c = omega (arith, down-turn (c .before .before .before .before .before .before .before .before))
+  down-add-down : down-lts.Need-add-down down-callees down-at down.Post down-Inv-loop down-μ-loop
+  down-add-down c = omega (arith, down-turn (c .before .before .before .before .before .before .before .before .before))
 
-  down-up-requires : down-lts.Need-up-requires down-callees down-at down.Post down-Inv-loop down-μ-loop
-  down-up-requires c κs =
-      let notch = c .before .before .before .before in
+  down-down-requires : down-lts.Need-down-requires down-callees down-at down.Post down-Inv-loop down-μ-loop
+  down-down-requires c κs =
+      let notch = c .before .before .before .before .before in
       let inside = notch .before in
       let head = inside .before .before .before .before in
       let turn = down-turn head in
       let may = below-may turn (notch .notch .result) (inside .if3 .taken) (down-going (inside .before .before) .1) in
       (omega (arith, turn, head .before .before .before .before .before .before .before .pre .0), may)
 
-  down-add-down : down-lts.Need-add-down down-callees down-at down.Post down-Inv-loop down-μ-loop
-  down-add-down c = omega (arith, down-turn (c .before .before .before .before .before .before .before .before))
+  down-add-up : down-lts.Need-add-up down-callees down-at down.Post down-Inv-loop down-μ-loop
+  down-add-up c = omega (arith, down-turn (c .before .before .before .before .before .before .before .before .before))
 
-  down-down-requires : down-lts.Need-down-requires down-callees down-at down.Post down-Inv-loop down-μ-loop
-  down-down-requires c κs =
-      let notch = c .before .before .before .before in
+  down-up-requires : down-lts.Need-up-requires down-callees down-at down.Post down-Inv-loop down-μ-loop
+  down-up-requires c κs =
+      let notch = c .before .before .before .before .before in
       let inside = notch .before in
       let head = inside .before .before .before .before in
       let turn = down-turn head in
@@ -239,37 +237,35 @@ module _ (t : ℕ) where
       let moved = c .past .ensures in
       ⊎-elim
       (λ w.
-      after-row turn _ _ _ _ _ going moved _ _ (w .0 .taken) some (w .1 .ensures) (down-row _ (w .1 .result))
+      after-square turn _ _ _ _ _ going moved _ _ (w .0 .taken) some (w .1 .ensures) (w .2 .ensures)
+      _
+      (w .3 .taken)
+      (w .6 .ensures)
+      (w .6 .kept .1 .1 .1 .1 .1 .1 .1 .0)
+      (w .9)
+      (w .10))
+      (⊎-elim
+      (λ w.
+      after-below turn _ _ _ _ _ going moved _ _ (w .0 .taken) some (w .1 .ensures) (sym (w .4 .taken) ∙ w .2 .ensures)
       _
       _
-      (w .2 .taken)
-      (w .4 .ensures .0)
-      (w .7 .ensures)
-      (w .7 .kept .1 .1 .1 .1 .1 .1 .1 .0)
+      (w .7 .ensures .0)
+      (w .7 .ensures .1 .0)
+      (w .7 .ensures .1 .1)
+      (w .7 .kept .1 .1 .1 .1 .1 .1 .0)
       (w .10)
       (w .11))
       (⊎-elim
       (λ w.
-      after-below turn _ _ _ _ _ going moved _ _ (w .0 .taken) some (w .1 .ensures) (other-if-odd true _ (w .1 .result) (λ z. omega (arith, w .3 .taken)))
+      after-below turn _ _ _ _ _ going moved _ _ (w .0 .taken) some (w .1 .ensures) (sym (w .4 .left) ∙ w .2 .ensures)
       _
       _
-      (w .6 .ensures .0)
-      (w .6 .ensures .1 .0)
-      (w .6 .ensures .1 .1)
-      (w .6 .kept .1 .1 .1 .1 .1 .1 .0)
-      (w .9)
-      (w .10))
-      (⊎-elim
-      (λ w.
-      after-below turn _ _ _ _ _ going moved _ _ (w .0 .taken) some (w .1 .ensures) (same-if-even true _ (w .1 .result) (omega (arith, w .3 .left)))
-      _
-      _
-      (w .6 .ensures .0)
-      (w .6 .ensures .1 .0)
-      (w .6 .ensures .1 .1)
-      (w .6 .kept .1 .1 .1 .1 .1 .1 .0)
-      (w .9)
-      (w .10))
+      (w .7 .ensures .0)
+      (w .7 .ensures .1 .0)
+      (w .7 .ensures .1 .1)
+      (w .7 .kept .1 .1 .1 .1 .1 .1 .0)
+      (w .10)
+      (w .11))
       (λ w. after-none turn _ _ _ _ _ going moved (w .0 .left) (w .1) (w .2))))
       (c .before .if3 .came)
 
@@ -293,16 +289,14 @@ module _ (t : ℕ) where
       down-element-copy-out-q
       down-loop-holds
       down-notch-requires
+      down-turn-requires
       down-add-if4
-      down-add-wide
-      down-shared-slice-read-wide-2
-      down-wide-requires-2
-      down-row-requires
+      down-square-requires
       down-element-write-word
-      down-add-up
-      down-up-requires
       down-add-down
       down-down-requires
+      down-add-up
+      down-up-requires
       down-past-requires
       down-add-u
       down-loop-less
@@ -377,47 +371,40 @@ module _ (t : ℕ) where
       let going = c .before .before in
       (up-going going .0, going .before .before .before .before .wide .ensures .1)
 
+  up-turn-requires : up-lts.Need-turn-requires up-callees up-at up.Post up-Inv-loop up-μ-loop
+  up-turn-requires c κs = tt
+
   up-add-if4 : up-lts.Need-add-if4 up-callees up-at up.Post up-Inv-loop up-μ-loop
-  up-add-if4 c = omega (arith, up-turn (c .before .before .before .before .before))
+  up-add-if4 c = omega (arith, up-turn (c .before .before .before .before .before .before))
 
-  up-add-wide : up-lts.Need-add-wide up-callees up-at up.Post up-Inv-loop up-μ-loop
-  up-add-wide c = omega (arith, up-turn (c .before .before .before .before .before .before))
-
-  up-shared-slice-read-wide-2 : up-lts.Need-shared-slice-read-wide-2 up-callees up-at up.Post up-Inv-loop up-μ-loop
-  up-shared-slice-read-wide-2 c = omega (arith, c .before .if4 .taken)
-
-  up-wide-requires-2 : up-lts.Need-wide-requires-2 up-callees up-at up.Post up-Inv-loop up-μ-loop
-  up-wide-requires-2 c κs = tt
-
-  up-row-requires : up-lts.Need-row-requires up-callees up-at up.Post up-Inv-loop up-μ-loop
-  up-row-requires c κs =
-      let last = c .before .before in
-      let two = last .before .before in
-      let inside = two .before .before in
-      let turn = up-turn (inside .before .before .before .before) in
-      row-may turn _ (inside .if3 .taken) (two .if4 .taken) (last .wide2 .ensures .0) (last .wide2 .ensures .1)
+  up-square-requires : up-lts.Need-square-requires up-callees up-at up.Post up-Inv-loop up-μ-loop
+  up-square-requires c κs =
+      let three = c .before .before in
+      let inside = three .before .before .before in
+      square-may (up-turn (inside .before .before .before .before)) (three .before .before .notch .result) (inside .if3 .taken)
+      (up-going (inside .before .before) .1) (three .if4 .taken)
 
   up-element-write-word : up-lts.Need-element-write-word up-callees up-at up.Post up-Inv-loop up-μ-loop
-  up-element-write-word c = omega (arith, up-turn (c .before .before .before .before .before .before))
+  up-element-write-word c = omega (arith, up-turn (c .before .before .before .before .before .before .before))
 
-  up-add-up : up-lts.Need-add-up up-callees up-at up.Post up-Inv-loop up-μ-loop
-  up-add-up c = omega (arith, up-turn (c .before .before .before .before .before .before .before .before))
+  up-add-down : up-lts.Need-add-down up-callees up-at up.Post up-Inv-loop up-μ-loop
+  up-add-down c = omega (arith, up-turn (c .before .before .before .before .before .before .before .before .before))
 
-  up-up-requires : up-lts.Need-up-requires up-callees up-at up.Post up-Inv-loop up-μ-loop
-  up-up-requires c κs =
-      let notch = c .before .before .before .before in
+  up-down-requires : up-lts.Need-down-requires up-callees up-at up.Post up-Inv-loop up-μ-loop
+  up-down-requires c κs =
+      let notch = c .before .before .before .before .before in
       let inside = notch .before in
       let head = inside .before .before .before .before in
       let turn = up-turn head in
       let may = below-may turn (notch .notch .result) (inside .if3 .taken) (up-going (inside .before .before) .1) in
       (omega (arith, turn, head .before .before .before .before .before .before .before .pre .0), may)
 
-  up-add-down : up-lts.Need-add-down up-callees up-at up.Post up-Inv-loop up-μ-loop
-  up-add-down c = omega (arith, up-turn (c .before .before .before .before .before .before .before .before))
+  up-add-up : up-lts.Need-add-up up-callees up-at up.Post up-Inv-loop up-μ-loop
+  up-add-up c = omega (arith, up-turn (c .before .before .before .before .before .before .before .before .before))
 
-  up-down-requires : up-lts.Need-down-requires up-callees up-at up.Post up-Inv-loop up-μ-loop
-  up-down-requires c κs =
-      let notch = c .before .before .before .before in
+  up-up-requires : up-lts.Need-up-requires up-callees up-at up.Post up-Inv-loop up-μ-loop
+  up-up-requires c κs =
+      let notch = c .before .before .before .before .before in
       let inside = notch .before in
       let head = inside .before .before .before .before in
       let turn = up-turn head in
@@ -444,37 +431,35 @@ module _ (t : ℕ) where
       let moved = c .past .ensures in
       ⊎-elim
       (λ w.
-      after-row turn _ _ _ _ _ going moved _ _ (w .0 .taken) some (w .1 .ensures) (up-row _ (w .1 .result))
+      after-square turn _ _ _ _ _ going moved _ _ (w .0 .taken) some (w .1 .ensures) (w .2 .ensures)
+      _
+      (w .3 .taken)
+      (w .6 .ensures)
+      (w .6 .kept .1 .1 .1 .1 .1 .1 .1 .0)
+      (w .9)
+      (w .10))
+      (⊎-elim
+      (λ w.
+      after-below turn _ _ _ _ _ going moved _ _ (w .0 .taken) some (w .1 .ensures) (sym (w .4 .taken) ∙ w .2 .ensures)
       _
       _
-      (w .2 .taken)
-      (w .4 .ensures .0)
-      (w .7 .ensures)
-      (w .7 .kept .1 .1 .1 .1 .1 .1 .1 .0)
+      (w .7 .ensures .0)
+      (w .7 .ensures .1 .0)
+      (w .7 .ensures .1 .1)
+      (w .7 .kept .1 .1 .1 .1 .1 .1 .0)
       (w .10)
       (w .11))
       (⊎-elim
       (λ w.
-      after-below turn _ _ _ _ _ going moved _ _ (w .0 .taken) some (w .1 .ensures) (same-if-even false _ _ (w .3 .taken))
+      after-below turn _ _ _ _ _ going moved _ _ (w .0 .taken) some (w .1 .ensures) (sym (w .4 .left) ∙ w .2 .ensures)
       _
       _
-      (w .6 .ensures .0)
-      (w .6 .ensures .1 .0)
-      (w .6 .ensures .1 .1)
-      (w .6 .kept .1 .1 .1 .1 .1 .1 .0)
-      (w .9)
-      (w .10))
-      (⊎-elim
-      (λ w.
-      after-below turn _ _ _ _ _ going moved _ _ (w .0 .taken) some (w .1 .ensures) (other-if-odd false _ _ (w .3 .left))
-      _
-      _
-      (w .6 .ensures .0)
-      (w .6 .ensures .1 .0)
-      (w .6 .ensures .1 .1)
-      (w .6 .kept .1 .1 .1 .1 .1 .1 .0)
-      (w .9)
-      (w .10))
+      (w .7 .ensures .0)
+      (w .7 .ensures .1 .0)
+      (w .7 .ensures .1 .1)
+      (w .7 .kept .1 .1 .1 .1 .1 .1 .0)
+      (w .10)
+      (w .11))
       (λ w. after-none turn _ _ _ _ _ going moved (w .0 .left) (w .1) (w .2))))
       (c .before .if3 .came)
 
@@ -498,16 +483,14 @@ module _ (t : ℕ) where
       up-element-copy-out-q
       up-loop-holds
       up-notch-requires
+      up-turn-requires
       up-add-if4
-      up-add-wide
-      up-shared-slice-read-wide-2
-      up-wide-requires-2
-      up-row-requires
+      up-square-requires
       up-element-write-word
-      up-add-up
-      up-up-requires
       up-add-down
       up-down-requires
+      up-add-up
+      up-up-requires
       up-past-requires
       up-add-u
       up-loop-less
