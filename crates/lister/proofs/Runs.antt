@@ -15,7 +15,7 @@ use Rattle.gray.specs.Words.{list}
 use Rattle.gray.specs.Calls.{sizeCall}
 use Rattle.gray.specs.Sizes.{allFrom-weaker}
 use Rattle.gray.specs.Refusals.{accepted, radices-accepted, survey-size, survey-two, wrote-bytes}
-use Rattle.lister.specs.Calls.{settings, listCall}
+use Rattle.lister.specs.Calls.{wordsFrom, listCall}
 use Rattle.lister.specs.Listers.{listing}
 use Rattle.lister.specs.Outputs.{placed, window, laid, Sized, Reached}
 use Rattle.lister.specs.Reflections.{upward-lister-lists-the-list, length-listing}
@@ -23,10 +23,10 @@ use Rattle.lister.proofs.Windows.{window-map, length-window, each-windo
 
 -- the bytes that are owed
 abbrev pub run : List ℕ → ℕ → ℕ → List ℕ
-run l r t = flatten (map bytes (settings (digits l) r t))
+run l r t = flatten (map bytes (wordsFrom (digits l) r t))
 
 -- the window of the upward lister is the run of settings
-window-is-run : (l : List ℕ) (r t : ℕ) → window r t (listing false l) ≡ map bytes (settings (digits l) r t)
+window-is-run : (l : List ℕ) (r t : ℕ) → window r t (listing false l) ≡ map bytes (wordsFrom (digits l) r t)
 unfolding window
 window-is-run l r t = ap (window r t) (upward-lister-lists-the-list l) ∙ window-map bytes r t (list (digits l))
 
@@ -97,7 +97,7 @@ module _ (l : List ℕ) (total : ℕ) (sized : sizeCall l ≡ given total) (r t 
 laid-run : (l out : List ℕ) (r t : ℕ) → laid 0 [] (window r t (listing false l)) out ≡ run l r t ++ drop (length (run l r t)) out
 unfolding laid placed
 laid-run l out r t =
-    let same : map (λ w. w) (window r t (listing false l)) ≡ map bytes (settings (digits l) r t) =
+    let same : map (λ w. w) (window r t (listing false l)) ≡ map bytes (wordsFrom (digits l) r t) =
     map-id (window r t (listing false l)) ∙ window-is-run l r t in
     rw (same, zero-add (length (run l r t)))
 

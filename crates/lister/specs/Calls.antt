@@ -7,12 +7,12 @@ use Rattle.gray.specs.Answers.{Answer, refusing, fitting}
 use Rattle.gray.specs.Radices.{digits, bytes, size, ofRadices}
 use Rattle.gray.specs.Words.{list}
 
--- the t settings of the list from rank r on
-abbrev pub settings : List ℕ → ℕ → ℕ → List (List ℕ)
-settings ms r t = take t (drop r (list ms))
+-- the t words (settings) of the list from rank r on
+abbrev pub wordsFrom : List ℕ → ℕ → ℕ → List (List ℕ)
+wordsFrom ms r t = take t (drop r (list ms))
 
--- the bytes of these settings, one setting after another, for an output of `room` bytes
+-- the bytes of these words, one word after another, for an output of `room` bytes
 unfoldable pub listCall : List ℕ → ℕ → ℕ → ℕ → Answer (List ℕ)
 listCall radices r t room =
     ofRadices (digits radices)
-    (refusing 8 (ltb (size (digits radices)) (r + t)) (fitting room (flatten (map bytes (settings (digits radices) r t)))))
+    (refusing 8 (ltb (size (digits radices)) (r + t)) (fitting room (flatten (map bytes (wordsFrom (digits radices) r t)))))

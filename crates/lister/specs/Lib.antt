@@ -4,7 +4,7 @@
 pub mod Listers
 pub mod Calls
 -- theorems
-pub mod Settings
+pub mod WordsFrom
 pub mod Reflections
 -- the list backward, and with one digit more at its slow end
 pub mod Reversing

@@ -217,8 +217,8 @@ fn square(
     }
 }
 
-// The upward lister: i digits stand fixed in `word`, and digit after digit of those that remain goes through its notches. After an
-// even notch the others are listed upward too, after an odd one downward.
+// The upward lister: i digits stand fixed in `word`, and the next one goes through its notches, 0 first. After an even notch the
+// digits that remain are listed upward too, after an odd one downward.
 fn up(
     radices: &[u8],
     sizes: &[usize; 48],
@@ -267,7 +267,8 @@ fn up(
     }
 }
 
-// The downward lister, the other way round.
+// The downward lister: the next digit goes from its last notch to 0. After an even notch the digits that remain are listed downward
+// too, after an odd one upward.
 fn down(
     radices: &[u8],
     sizes: &[usize; 48],
