@@ -4,12 +4,11 @@ use native.Mathlib.Omega.{arith}
 use mathlib.Core.Path.{_≡_, sym, ap, ap₂, _∙_}
 use mathlib.Core.Bool.{Bool, true, false, _&&_, not, and-true, and-false, and-assoc}
 use mathlib.Core.List.{List, [], _∷_}
-use borrow.Author.Tests.{ltb-false, le-leb, lt-leb}
-use lib.Dec.{eqb, ltb, leb}
+use borrow.Author.Tests.{le-leb, lt-leb}
+use lib.Dec.{ltb, leb}
 use lib.ListN.{length, getD, take, length-reverse, List·getD-append}
 use lib.Seq.{length-take-le, getD-take, getD-at}
 use Rattle.gray.specs.Answers.{given, refused, refusing, isGiven}
-use Rattle.gray.specs.Bools.{neither}
 use Rattle.gray.specs.Radices.{digits, size}
 use Rattle.gray.specs.Directions.{allBelow, digitsInRange}
 use Rattle.gray.specs.Calls.{sizeCall}
@@ -19,7 +18,8 @@ use Rattle.gray.specs.Refusals.{accepted, radices-accepted, survey-accepted, su
 use Rattle.gray.specs.Engines.{refusedWith}
 use Rattle.ahead.specs.declared.Progress.{Progress}
 use Rattle.ahead.specs.declared.Walk.{Walk}
-use Rattle.ahead.specs.States.{wrongCapacity, openCheck, survey, places, isPlace, counterInRange, entriesInRange, producerInRange, stepLimit, inRange}
+use Rattle.gray.specs.Capacities.{wrongCapacity}
+use Rattle.ahead.specs.States.{openCheck, survey, places, isPlace, counterInRange, entriesInRange, producerInRange, stepLimit, inRange}
 use Rattle.ahead.specs.Calls.{freshWith, fresh, openWith, openOf}
 use Rattle.ahead.specs.Stages.{assembled, Radices}
 
@@ -91,9 +91,6 @@ module _ (w : Walk) (l : List ℕ) (c : ℕ) where
 -- what the stages that are passed say
 pub accepted-radices : (l : List ℕ) (n total : ℕ) → length l ≡ 48 → n ≤ 48 → sizeCall (take n l) ≡ given total → Radices l n
 accepted-radices l n total long h e = record { room = long; most = h; two = survey-two (take n l) total e }
-
-pub right-capacity : (c : ℕ) → wrongCapacity c ≡ false → c ≤ 32
-right-capacity c e = ltb-false 32 c (neither (eqb c 0) (ltb 32 c) e .1)
 
 module _ (w : Walk) where
   pub digits-over : 48 < w .n → false ≡ inRange w

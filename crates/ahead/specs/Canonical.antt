@@ -21,7 +21,7 @@ use Rattle.ahead.specs.States.{places}
 use Rattle.ahead.specs.Work.{Work, carry, append, idle, countAt, radixAt, runOut, kind, done}
 use Rattle.ahead.specs.InRange.{last-is-two, carries-on as kind-carry, appends-one as kind-append, stays-full as kind-idle}
 use Rattle.ahead.specs.Counters.{mixedDigits, cleared, length-mixedDigits, length-cleared, cleared-at, carry-test, carry-clears, append-counts, ruler-most, ruler-places, allFrom-places, length-places}
-use Rattle.ahead.specs.Openings.{Openable}
+use Rattle.gray.specs.Capacities.{Openable}
 use Rattle.ahead.specs.Positions.{Position, Worked, Worked.carried, Worked.appended, Worked.idled, stepsAt, one, gained, work-steps}
 
 -- ---- the entries queued

@@ -19,7 +19,7 @@ use Rattle.ahead.specs.Work.{Work, carry, append, idle, countAt, radixAt
 use Rattle.ahead.specs.Calls.{fresh, once, twice, Course, course, dequeued, endOf, moveOf, stepBy, stepOf}
 use Rattle.ahead.specs.Runs.{state, answer, events, Accepting}
 use Rattle.ahead.specs.Demand.{Within, Finished, StepsCounted, NamesChange, WalksTheList, RunsDry, WorksAhead, StaysInRange}
-use Rattle.ahead.specs.Openings.{Openable}
+use Rattle.gray.specs.Capacities.{Openable}
 use Rattle.ahead.specs.Positions.{Position, stepsAt, steps-short}
 use Rattle.ahead.specs.Canonical.{producerAt, walkAt}
 use Rattle.ahead.specs.Rounds.{round, running, running-ranged}

@@ -21,7 +21,8 @@ use Rattle.ahead.specs.declared.Walk.{Walk}
 use Rattle.ahead.specs.States.{survey, openCheck, places, isPlace, counterInRange, entriesInRange, producerInRange, stepLimit, inRange}
 use Rattle.ahead.specs.Work.{Work, carry, append, idle, countAt, radixAt, runOut, kind, done, work}
 use Rattle.ahead.specs.Counters.{allFrom-places, length-places}
-use Rattle.ahead.specs.Openings.{Openable, openable}
+use Rattle.gray.specs.Capacities.{Openable}
+use Rattle.ahead.specs.Openings.{openable}
 use Rattle.ahead.specs.Calls.{once, twice, dequeued}
 
 -- the lengths that the arrays of a state have

@@ -26,7 +26,7 @@ use Rattle.ahead.specs.Demand.{NamesChange}
 use Rattle.ahead.specs.Kept.{goes-over}
 use Rattle.ahead.specs.Counters.{mixedDigits, mixed-start, length-places}
 use Rattle.ahead.specs.Entries.{cost-zero}
-use Rattle.ahead.specs.Openings.{Openable}
+use Rattle.gray.specs.Capacities.{Openable}
 use Rattle.ahead.specs.Positions.{Position, stepsAt, Ahead, Behind, work-position, work-steps, gain-small, ahead-fresh, ahead-work, ahead-remove, ahead-queued, behind-fresh, behind-work, behind-remove, behind-queued}
 use Rattle.ahead.specs.Canonical.{entries, same-producer, same-walk, producerAt, walkAt}
 use Rattle.ahead.specs.Ranged.{producer-ranged, state-ranged}

@@ -17,7 +17,7 @@ use Rattle.gray.specs.Bounds.{entry-costs-ruler, cost-below-double, cost-burst}
 use Rattle.gray.specs.Rulers.{ruler-pos, ruler-at-end}
 use Rattle.gray.specs.Sizes.{allFrom-weaker, size-pos}
 use Rattle.ahead.specs.Work.{Work, carry, append, idle}
-use Rattle.ahead.specs.Openings.{Openable}
+use Rattle.gray.specs.Capacities.{Openable}
 use Rattle.ahead.specs.Entries.{cost-mono, cost-least, cost-from-N}
 
 -- entries t + 1 .. t + k are queued, in at most c places, and p of the carries of the next one are made

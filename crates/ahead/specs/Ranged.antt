@@ -19,7 +19,8 @@ use Rattle.ahead.specs.declared.Producer.{Producer}
 use Rattle.ahead.specs.States.{survey, places, producerInRange, stepLimit, inRange}
 use Rattle.ahead.specs.InRange.{IsPlace, says-producer, says-range}
 use Rattle.ahead.specs.Counters.{mixedDigits, cleared, length-mixedDigits, mixed-below, length-cleared, cleared-below, ruler-most, allFrom-places, length-places}
-use Rattle.ahead.specs.Openings.{Openable, opens}
+use Rattle.gray.specs.Capacities.{Openable}
+use Rattle.ahead.specs.Openings.{opens}
 use Rattle.ahead.specs.Positions.{Position, one}
 use Rattle.ahead.specs.Canonical.{entries, length-entries, producerAt, walkAt}
 

@@ -24,7 +24,7 @@ use Rattle.ahead.specs.Calls.{once, twice, dry, removing, course, dequeu
 use Rattle.ahead.specs.Runs.{eventsBy}
 use Rattle.ahead.specs.Kept.{goes-dry, goes-removing, removes-last, removes-digit}
 use Rattle.ahead.specs.Counters.{mixedDigits, cleared}
-use Rattle.ahead.specs.Openings.{Openable}
+use Rattle.gray.specs.Capacities.{Openable}
 use Rattle.ahead.specs.Positions.{Position, Worked, stepsAt, one, work-position, work-steps, gain-small, counter-lasts}
 use Rattle.ahead.specs.Canonical.{entries, length-entries, entries-first, same-producer, same-walk, producerAt, walkAt, Does, does, not-run-out}
 use Rattle.ahead.specs.Ranged.{producer-ranged, state-ranged}

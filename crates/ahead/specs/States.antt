@@ -1,24 +1,21 @@
 -- The state of the buffered engine and when it is in range (document 01, "The buffered engine"). Its arrays have digit 1 first,
 -- and room for 48 digits; what they hold past digit n plays no part.
 use Prim.Native.Nat.{ℕ, _+_, _*_}
-use mathlib.Core.Bool.{Bool, cond, _&&_, _||_}
+use mathlib.Core.Bool.{Bool, cond, _&&_}
 use mathlib.Core.List.{List, [], _∷_, _++_}
-use lib.Dec.{eqb, ltb, leb}
+use lib.Dec.{ltb, leb}
 use lib.ListN.{length, getD, take}
-use Rattle.gray.specs.Answers.{Answer, given, isGiven, refusing}
-use Rattle.gray.specs.Radices.{size, ofRadices}
+use Rattle.gray.specs.Answers.{Answer, given, isGiven}
+use Rattle.gray.specs.Radices.{size}
+use Rattle.gray.specs.Capacities.{ofSurvey}
 use Rattle.gray.specs.Directions.{allBelow, digitsInRange}
 use Rattle.ahead.specs.declared.Producer.{Producer}
 use Rattle.ahead.specs.declared.Walk.{Walk}
 
 -- ---- the survey
--- refusal 5: the capacity is 0 or over 32
-abbrev pub wrongCapacity : ℕ → Bool
-wrongCapacity c = eqb c 0 || ltb 32 c
-
 -- the checks of an opening: refusals 2, 3, 4 of the survey, then 5
 abbrev pub openCheck : List ℕ → ℕ → Answer Unit
-openCheck ms c = ofRadices ms (refusing 5 (wrongCapacity c) (given tt))
+openCheck ms c = ofSurvey ms c (given tt)
 
 -- the survey and the setting that a state holds
 abbrev pub survey : Walk → List ℕ

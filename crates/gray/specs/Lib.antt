@@ -28,8 +28,10 @@ pub mod Increments
 pub mod Digits
 pub mod Reversals
 pub mod Refusals
+pub mod Capacities
 pub mod DigitRanges
 pub mod Filled
+pub mod Places
 pub mod WalkArrays
 -- what private functions answer
 pub mod Stages

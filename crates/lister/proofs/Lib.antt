@@ -1,5 +1,4 @@
 -- Laws that the proofs of several functions cite.
-pub mod Places
 pub mod Windows
 pub mod Blocks
 pub mod Turns

@@ -12,9 +12,9 @@ use Rattle.gray.specs.Radices.{size}
 use Rattle.gray.specs.Members.{getD-upward, getD-downward}
 use Rattle.gray.specs.Words.{even, upward, downward}
 use Rattle.lister.specs.Listers.{blocks, listing}
-use Rattle.lister.specs.Outputs.{placed, window, laid, notchAfter, RowRoom}
+use Rattle.lister.specs.Outputs.{window, laid, notchAfter, RowRoom}
 use Rattle.lister.specs.Reflections.{length-listing}
-use Rattle.lister.proofs.Places.{placed-none, length-placed, placed-append}
+use Rattle.gray.specs.Places.{placed, placed-none, length-placed, placed-append}
 use Rattle.lister.proofs.Windows.{flatten-append}
 
 -- ---- the words of one digit

@@ -8,8 +8,8 @@ use mathlib.Core.List.{List, [], _∷_, _++_, map, flatten, append-nil, append-a
 use lib.ListN.{length, take, drop, length-append, length-drop, drop-of-length-le}
 use lib.Seq.{take-nil, append-snoc}
 use Rattle.lister.specs.Listers.{blocks, listing}
-use Rattle.lister.specs.Outputs.{placed, window, laid}
-use Rattle.lister.proofs.Places.{placed-none, placed-append}
+use Rattle.lister.specs.Outputs.{window, laid}
+use Rattle.gray.specs.Places.{placed, placed-none, placed-append}
 use Rattle.gray.specs.Words.{even, upward, downward}
 
 -- ---- the window

@@ -5,10 +5,7 @@ use mathlib.Core.Bool.{Bool, true, cond}
 use mathlib.Core.List.{List, _++_, map, flatten}
 use lib.ListN.{length, getD, take, drop}
 use Rattle.gray.specs.Radices.{size, allFrom}
-
--- bytes in an output from place `at` on
-unfoldable pub placed : ℕ → List ℕ → List ℕ → List ℕ
-placed at b out = take at out ++ b ++ drop (at + length b) out
+use Rattle.gray.specs.Places.{placed}
 
 -- t words from word s on
 unfoldable pub window : ℕ → ℕ → List (List ℕ) → List (List ℕ)

@@ -14,9 +14,10 @@ ghost use Rattle.gray.specs.Answers.{Wrote};
 ghost use Rattle.gray.specs.Calls.{writtenAs};
 ghost use Rattle.gray.specs.Radices.{size as sizeOf, allFrom};
 ghost use Rattle.gray.specs.Words.{even};
+ghost use Rattle.gray.specs.Places.{placed};
 ghost use Rattle.lister.specs.Listers.{listing};
 ghost use Rattle.lister.specs.Calls.{listCall};
-ghost use Rattle.lister.specs.Outputs.{placed, window, laid, notchAfter, Sized, Reached, RowRoom};
+ghost use Rattle.lister.specs.Outputs.{window, laid, notchAfter, Sized, Reached, RowRoom};
 
 // The bytes go by way of a local array: nothing else refers to it, so they can all be moved at once.
 fn load(from: &[u8; 48], start: usize, count: usize) -> [u8; 16]

@@ -14,7 +14,8 @@ use Rattle.gray.specs.Refusals.{survey-refused, survey-size}
 use Rattle.ahead.specs.States.{survey}
 use Rattle.ahead.specs.Stages.{Radices}
 use Rattle.ahead.specs.InRange.{Arrays}
-use Rattle.ahead.proofs.Ranges.{accepted-radices, right-capacity, digits-over, capacity-tested, not-open, state-tested}
+use Rattle.gray.specs.Capacities.{right-capacity}
+use Rattle.ahead.proofs.Ranges.{accepted-radices, digits-over, capacity-tested, not-open, state-tested}
 use Rattle.ahead.proofs.Walk.in_range.Statement.{statement}
 use Rattle.ahead.proofs.Walk.in_range.Tie as tie
 
@@ -125,7 +126,7 @@ producer-in-range-requires : tie.Need-producer-in-range-requires
 producer-in-range-requires c κs =
     let at = passed (lent c) in
     let long = lengths (start (at .before)) in
-    (radices-fit (at .before), right-capacity _ (at .if2 .left), long .counter, long .queue)
+    (radices-fit (at .before), right-capacity _ (at .if2 .left) .1, long .counter, long .queue)
 
 within-requires : tie.Need-within-requires
 within-requires c κs = survey-size _ _ (size-is (passed (lent (c .before)) .before)) .1

@@ -5,7 +5,8 @@ use native.Mathlib.Omega.{arith}
 use Rattle.gray.specs.Answers.{given}
 use Rattle.gray.specs.Calls.{countedAs, sizeCall}
 use Rattle.gray.specs.Refusals.{accepted, passed-on}
-use Rattle.ahead.proofs.Ranges.{opening-refused, capacity-refused, opening-given, right-capacity}
+use Rattle.gray.specs.Capacities.{right-capacity}
+use Rattle.ahead.proofs.Ranges.{opening-refused, capacity-refused, opening-given}
 use borrow.Author.Needs.{needs}
 use Rattle.ahead.proofs.Walk.open.Statement.{statement}
 use Rattle.ahead.proofs.Walk.open.Tie as tie
@@ -51,7 +52,7 @@ cast-fresh c =
 
 cast-fresh-2 : tie.Need-cast-fresh-2
 cast-fresh-2 c =
-    let most = right-capacity (c .before .before .before .before .before .before .args .capacity) (c .before .if1 .left) in
+    let most = right-capacity (c .before .before .before .before .before .before .args .capacity) (c .before .if1 .left) .1 in
     omega arith
 
 fresh-requires : tie.Need-fresh-requires

@@ -1,11 +1,14 @@
--- Laws of bytes that are placed in an output.
+-- Bytes at a place of an output, and the laws that writers cite.
 use Prim.Native.Nat.{ℕ, suc, _+_, _-_, _≤_, _<_}
 use mathlib.Core.Path.{_≡_, sym, ap, _∙_}
 use mathlib.Core.List.{List, [], _∷_, _++_, append-assoc, append-nil}
 use native.Mathlib.Omega.{arith}
 use lib.ListN.{length, take, drop, set, getD, length-append, length-drop, take-append-drop}
 use lib.Seq.{length-take-le, take-at, drop-at, drop-drop, drop-cons, set-at, append-snoc, take-add}
-use Rattle.lister.specs.Outputs.{placed}
+
+-- bytes in an output from place `at` on
+unfoldable pub placed : ℕ → List ℕ → List ℕ → List ℕ
+placed at b out = take at out ++ b ++ drop (at + length b) out
 
 -- what stands up to the end of the bytes is as long as it should be
 length-front : (at : ℕ) (b out : List ℕ) → at ≤ length out → length (take at out ++ b) ≡ at + length b
