@@ -5,6 +5,7 @@
 use gray::Counted;
 use gray::Ranked;
 use gray::Written;
+use movelog::Reading;
 
 fn print(text: &[u8]) {
     io::write_all(1, text);
@@ -94,6 +95,29 @@ fn list_case(radices: &[u8], from: u64, count: u64, out: &mut [u8]) {
     print(b", ");
     print_number(count);
     print_written(lister::list(radices, from, count, out), out);
+}
+
+fn write_case(radices: &[u8], capacity: usize, moves: u64, out: &mut [u8]) {
+    print(b"write");
+    print_bytes(radices);
+    print(b", ");
+    print_number(capacity as u64);
+    print(b", ");
+    print_number(moves);
+    print_written(movelog::write(radices, capacity, moves, out), out);
+}
+
+// What a log is read as, and the part of it that holds the moves.
+fn read_case(log: &[u8]) {
+    print(b"read");
+    print_bytes(log);
+    match movelog::read(log) {
+        Reading::Moves(t) => print_value(t),
+        Reading::Refused(k) => print_refused(k),
+    }
+    print(b";");
+    print_bytes(movelog::moves(log));
+    print(b"\n");
 }
 
 fn move_case(digit: u8, down: bool) {
@@ -209,6 +233,72 @@ fn windows() {
     list_case(&twos, 281474976710654, 2, &mut long);
 }
 
+// The log of 2, 3 in full has 28 bytes.
+fn logs_refused() {
+    let mut out = [9u8; 28];
+    write_case(b"\x02\x01", 0, 6, &mut out);
+    write_case(b"\x02\x03", 0, 6, &mut out);
+    write_case(b"\x02\x03", 33, 6, &mut out);
+    write_case(b"\x02\x03", 18446744073709551615, 0, &mut out);
+    write_case(b"\x02\x03", 32, 6, &mut out);
+    write_case(b"\x02\x03", 1, 18446744073709551615, &mut out);
+    let mut short = [9u8; 27];
+    write_case(b"\x02\x03", 1, 5, &mut short);
+    write_case(b"\x02\x03", 1, 6, &mut short);
+}
+
+fn logs() {
+    let mut nine = [9u8; 9];
+    write_case(b"\x02\x03", 1, 0, &mut nine);
+    let mut out = [9u8; 28];
+    write_case(b"\x02\x03", 32, 4, &mut out);
+    write_case(b"\x02\x03", 1, 5, &mut out);
+}
+
+// Logs of 2, 3: of 4 moves and of 5; no move; the end too early, missing, with another number, cut, followed by a byte, twice.
+fn ends() {
+    read_case(b"\x01\x02\x20\x02\x01\x03\x02\x02\x02\x03\x01\x03\x01\x03\x02\x03\x81");
+    read_case(
+        b"\x01\x02\x01\x02\x01\x03\x02\x02\x02\x03\x01\x03\x01\x03\x02\x03\x81\x03\x81\x04\x00\x00\x00\x00\x00\x00\x00\x05",
+    );
+    read_case(b"\x01\x02\x01\x02\x01\x03\x02\x02\x02");
+    read_case(
+        b"\x01\x02\x01\x02\x01\x03\x02\x02\x02\x03\x01\x03\x01\x03\x02\x03\x81\x04\x00\x00\x00\x00\x00\x00\x00\x05",
+    );
+    read_case(b"\x01\x02\x01\x02\x01\x03\x02\x02\x02\x03\x01\x03\x01\x03\x02\x03\x81\x03\x81");
+    read_case(
+        b"\x01\x02\x01\x02\x01\x03\x02\x02\x02\x03\x01\x03\x01\x03\x02\x03\x81\x03\x81\x04\x05\x00\x00\x00\x00\x00\x00\x00",
+    );
+    read_case(
+        b"\x01\x02\x01\x02\x01\x03\x02\x02\x02\x03\x01\x03\x01\x03\x02\x03\x81\x03\x81\x04\x00\x00\x00\x00\x00\x00\x05",
+    );
+    read_case(
+        b"\x01\x02\x01\x02\x01\x03\x02\x02\x02\x03\x01\x03\x01\x03\x02\x03\x81\x03\x81\x04\x00\x00\x00\x00\x00\x00\x00\x05\x03",
+    );
+    read_case(
+        b"\x01\x02\x01\x02\x01\x03\x02\x02\x02\x04\x00\x00\x00\x00\x00\x00\x00\x05\x04\x00\x00\x00\x00\x00\x00\x00\x05",
+    );
+}
+
+// Nothing; a start that is cut; digit records missing, cut and out of order; another kind; a survey and a capacity that are
+// refused; a move in the other direction, of a digit that there is not, and one past the last.
+fn readings() {
+    read_case(b"");
+    read_case(b"\x01\x00");
+    read_case(b"\x01\x02\x01\x02\x01\x03");
+    read_case(b"\x01\x02\x01\x02\x01\x03\x02\x02");
+    read_case(b"\x01\x02\x01\x02\x02\x02\x02\x01\x03");
+    read_case(b"\x01\x01\x01\x02\x01\x02\x05\x01");
+    read_case(b"\x01\x00\x00");
+    read_case(b"\x01\x01\x00\x02\x01\x01\x03\x01");
+    read_case(b"\x01\x01\x00\x02\x01\x02\x03\x81");
+    read_case(b"\x01\x01\x21\x02\x01\x02\x03\x81");
+    read_case(b"\x01\x01\x20\x02\x01\x03\x03\x81");
+    read_case(b"\x01\x01\x20\x02\x01\x03\x03\x02");
+    read_case(b"\x01\x01\x20\x02\x01\x02\x03\x01\x03\x81");
+    read_case(b"\x01\x01\x20\x02\x01\x02\x03\x01\x02\x81");
+}
+
 fn main() {
     sizes();
     limits();
@@ -219,4 +309,8 @@ fn main() {
     runs();
     windows();
     moves();
+    logs_refused();
+    logs();
+    ends();
+    readings();
 }

@@ -13,6 +13,7 @@ use Rattle.gray.specs.Changes.{Change, difference, change, ruler}
 use Rattle.gray.specs.Costs.{wholeParts, cost}
 use Rattle.gray.specs.Calls.{sizeCall, rankCall}
 use Rattle.gray.specs.Directions.{allBelow}
+use Rattle.gray.specs.MoveBytes.{moveByte}
 use Rattle.gray.specs.Engines.{Event, moved, ended, after, answerOf}
 use Rattle.ahead.specs.declared.Walk.{Walk}
 use Rattle.ahead.specs.States.{setting, producerInRange, inRange}
@@ -25,6 +26,9 @@ use Rattle.towers.specs.Choices.{pegOf, smallest, chosen}
 use Rattle.towers.specs.Calls.{closedTowers, fresh as freshDisks, openOf as openDisks, moveOf as moveDisk, stepOf as stepDisks}
 use Rattle.lister.specs.Listers.{blocks, listing}
 use Rattle.lister.specs.Calls.{listCall}
+use Rattle.movelog.specs.Logs.{highFirst, digitRecords, movesFrom, logOf}
+use Rattle.movelog.specs.Shapes.{movesThenEnd, digitsThenMoves, shaped, radicesOf, countMoves, sameBytes}
+use Rattle.movelog.specs.Calls.{writeCall, readCall, movesCall}
 use Rattle.starred.specs.Same.{Test, numbers, changes, events, units, lists, answers}
 
 -- a row: what the definitions give, and what document 01 says it is
@@ -89,6 +93,11 @@ finishedAt j u (carry ∷ es) = finishedAt j (suc u) es
 finishedAt zero u (append ∷ es) = suc u
 finishedAt (suc j) u (append ∷ es) = finishedAt j (suc u) es
 finishedAt j u (idle ∷ es) = finishedAt j u es
+
+-- the log of 2, 3 with c = 1, t = 5, as document 01 has it
+abbrev firstLog : List ℕ
+firstLog =
+    1 ∷ 2 ∷ 1 ∷ 2 ∷ 1 ∷ 3 ∷ 2 ∷ 2 ∷ 2 ∷ 3 ∷ 1 ∷ 3 ∷ 1 ∷ 3 ∷ 2 ∷ 3 ∷ 129 ∷ 3 ∷ 129 ∷ 4 ∷ 0 ∷ 0 ∷ 0 ∷ 0 ∷ 0 ∷ 0 ∷ 0 ∷ 5 ∷ []
 
 unfoldable pub table : List Row
 table =
@@ -157,6 +166,15 @@ table =
     ∷ row (answers (lists numbers)) (listCall (2 ∷ 3 ∷ []) 0 6 11) (refused 9)
     ∷ row (lists (lists numbers)) (listing true (2 ∷ 3 ∷ []))
     ((1 ∷ 0 ∷ []) ∷ (1 ∷ 1 ∷ []) ∷ (1 ∷ 2 ∷ []) ∷ (0 ∷ 2 ∷ []) ∷ (0 ∷ 1 ∷ []) ∷ (0 ∷ 0 ∷ []) ∷ [])
+    -- the log of the first case, c = 1, t = 5, byte for byte, and what it is read as; without its end record
+    ∷ row (answers (lists numbers)) (writeCall (2 ∷ 3 ∷ []) 1 5 28) (given firstLog)
+    ∷ row (answers numbers) (readCall firstLog) (given 5)
+    ∷ row (answers numbers) (readCall (take 19 firstLog)) (refused 11)
+    -- besides: the part with its moves, its room, and logs that name no sluice and 49
+    ∷ row (lists numbers) (movesCall firstLog) (3 ∷ 1 ∷ 3 ∷ 1 ∷ 3 ∷ 2 ∷ 3 ∷ 129 ∷ 3 ∷ 129 ∷ [])
+    ∷ row (answers (lists numbers)) (writeCall (2 ∷ 3 ∷ []) 1 5 27) (refused 9)
+    ∷ row (answers numbers) (readCall (1 ∷ 0 ∷ 1 ∷ [])) (refused 2)
+    ∷ row (answers numbers) (readCall (1 ∷ 49 ∷ 1 ∷ digitRecords 1 (replicate 49 2))) (refused 2)
     ∷ []
 
 passes : List Row → Bool
@@ -170,7 +188,7 @@ each (r ∷ rs) e zero h = r .test .shows (r .computed) (r .said) (and-eq-true-i
 each (r ∷ rs) e (suc i) h = each rs (and-eq-true-iff (r .test .same (r .computed) (r .said)) (passes rs) .0 e .1) i (omega arith)
 
 tested : passes table ≡ true
-unfolding passes table sizeCall rankCall size allFrom upward downward notches through list isWord rank difference ruler wholeParts allBelow after producerInRange inRange kind done fresh openOf course dequeued endOf moveOf stepOf eventsOf allOdd allEvenAndEqual disksInRange pegOf smallest chosen freshDisks openDisks moveDisk stepDisks listCall flatten blocks listing
+unfolding passes table sizeCall rankCall size allFrom upward downward notches through list isWord rank difference ruler wholeParts allBelow after producerInRange inRange kind done fresh openOf course dequeued endOf moveOf stepOf eventsOf allOdd allEvenAndEqual disksInRange pegOf smallest chosen freshDisks openDisks moveDisk stepDisks listCall flatten blocks listing moveByte highFirst digitRecords movesFrom logOf movesThenEnd digitsThenMoves shaped radicesOf countMoves sameBytes writeCall readCall movesCall
 tested = refl
 
 -- every row of the table holds
