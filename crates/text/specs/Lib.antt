@@ -10,5 +10,7 @@ pub mod Output
 -- theorems
 pub mod Numerals
 pub mod Reading
+-- laws
+pub mod Fits
 -- what private functions answer
 pub mod Stages

@@ -3,7 +3,7 @@ use Prim.Native.Nat.{ℕ, _+_, min}
 use mathlib.Core.Bool.{cond, _&&_}
 use mathlib.Core.List.{List, [], _∷_}
 use lib.Dec.{ltb, eqb}
-use lib.ListN.{length, take, set, replicate}
+use lib.ListN.{take, set, replicate}
 use Rattle.text.specs.Decimals.{value}
 use Rattle.text.specs.Surveys.{Input, counts, unread, newline, space, isCount}
 use Rattle.text.specs.declared.Phase.{Phase}

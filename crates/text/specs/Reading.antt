@@ -1,16 +1,17 @@
 -- The reader, byte by byte and part by part, comes to what document 01 says of the whole input.
-use Prim.Native.Nat.{ℕ, zero, suc, _+_, _≤_, _<_, min}
+use Prim.Native.Nat.{ℕ, suc, _+_, _≤_, _<_, min}
 use native.Mathlib.Omega.{arith}
 use native.Mathlib.Decide.{decLt}
 use native.Mathlib.Numerals.{add-one}
 use mathlib.Core.Path.{_≡_, refl, sym, ap, subst, _∙_}
 use mathlib.Core.Bool.{Bool, true, false, cond, _&&_, and-false}
 use mathlib.Core.List.{List, [], _∷_, _++_, map, append-assoc, append-nil}
-use borrow.Author.Tests.{eq-eqb, ne-eqb, lt-ltb, le-ltb, lt-leb, eqb-true, eqb-false}
-use lib.Dec.{eqb, leb}
+use borrow.Author.Tests.{eq-eqb, ne-eqb, lt-ltb, le-ltb, lt-leb, eqb-true}
+use lib.Dec.{eqb}
 use lib.ListN.{length, take, set, length-append, length-set, length-reverse}
-use lib.Seq.{take-all, take-suc-set, take-set-le, take-append-le, length-take-le}
+use lib.Seq.{take-all, take-suc-set, take-append-le, length-take-le}
 use Rattle.gray.specs.Answers.{refused}
+use Rattle.gray.specs.Bools.{impossible}
 use Rattle.gray.specs.Radices.{digits}
 use Rattle.gray.specs.Calls.{sizeCall}
 use Rattle.text.specs.Decimals.{value}
@@ -19,6 +20,7 @@ use Rattle.text.specs.Readers.{freshReader, fieldOf, inPhase, byteKept, 
 use Rattle.text.specs.declared.Phase.{Phase}
 use Rattle.text.specs.declared.Phase.the-variants.{More, Ended, Unread}
 use Rattle.text.specs.declared.Reader.{Reader}
+use Rattle.text.specs.declared.Found.the-variants.{Counts}
 
 -- an input that comes in two parts is read as one
 pub parts-read-as-one : (r : Reader) (a b : List ℕ) → read (read r a) b ≡ read r (a ++ b)
@@ -407,3 +409,11 @@ kept-counts-answer-alike cs =
       | yes many ↦ too-many (take 49 cs) (omega (arith, length-take-le 49 cs (omega arith))) ∙ sym (too-many cs (omega arith))
       | no few ↦ ap sizeCall (take-all 49 cs (omega arith))
     ]
+
+-- no more than 49 counts are found
+pub few-counts : (p : Phase) (k n : ℕ) → foundIn p k ≡ Counts n → n ≤ 49
+few-counts More k n e = impossible (cc)
+few-counts Ended k n e =
+    let same : min k 49 ≡ n = cc in
+    omega arith
+few-counts Unread k n e = impossible (cc)

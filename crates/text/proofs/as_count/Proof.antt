@@ -1,6 +1,5 @@
 -- `text::as_count` meets its contract: a count is a number of at most three digits, up to 255. Assumes nothing.
 use mathlib.Core.Path.{sym, _∙_}
-use native.Mathlib.Omega.{arith}
 use borrow.Author.Needs.{needs}
 use Rattle.text.proofs.Readings.{no-number, large-number, is-count}
 use Rattle.text.proofs.as_count.Statement.{statement}

@@ -1,6 +1,5 @@
 -- `text::digit` meets its contract: below, above and within the digits. Assumes nothing.
 use mathlib.Core.Path.{sym}
-use native.Mathlib.Omega.{arith}
 use borrow.Author.Needs.{needs}
 use Rattle.text.proofs.Numbers.{digit-below, digit-above, digit-within}
 use Rattle.text.proofs.digit.Statement.{statement}

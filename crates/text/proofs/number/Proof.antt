@@ -1,16 +1,14 @@
 -- `text::number` meets its contract: what all bytes say is what those from i on say behind the value of the first i. Assumes
 -- nothing.
-use Prim.Native.Nat.{ℕ, _+_, _-_, _*_, _/_, _^_, _≤_, _<_}
+use Prim.Native.Nat.{ℕ, _+_, _-_, _*_, _^_, _≤_, _<_}
 use mathlib.Core.Path.{_≡_, sym, ap, _∙_}
-use mathlib.Core.Bool.{true, false}
-use mathlib.Core.List.{List, [], _∷_}
+use mathlib.Core.List.{List, _∷_}
 use native.Mathlib.Numerals.{add-one}
 use native.Mathlib.Omega.{arith}
 use borrow.Author.Needs.{needs}
 use lib.ListN.{length, getD, drop, drop-of-length-le}
 use lib.Seq.{drop-cons}
-use Rattle.text.specs.Decimals.{isDigit, digitOf, numberOf}
-use Rattle.text.specs.declared.Parsed.the-variants.{Number, Unread}
+use Rattle.text.specs.Decimals.{numberOf}
 use Rattle.text.proofs.Numbers.{numberFrom, none-read, begun, ended, joined, other, over, a-digit, no-digit}
 use Rattle.text.proofs.number.Statement.{statement}
 use Rattle.text.proofs.number.Tie as tie

@@ -1,5 +1,4 @@
 -- `text::Reader::end_field` meets its contract: a field is a count or it is not. Assumes nothing.
-use Prim.Native.Nat.{_≤_}
 use mathlib.Core.Path.{_≡_, sym, ap, _∙_}
 use native.Mathlib.Omega.{arith}
 use borrow.Author.Needs.{needs}
