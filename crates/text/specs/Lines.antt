@@ -2,7 +2,10 @@
 use Prim.Native.Nat.{ℕ}
 use mathlib.Core.Bool.{Bool, cond}
 use mathlib.Core.List.{List, [], _∷_, _++_}
-use Rattle.gray.specs.Answers.{Answer, fitting}
+use lib.Dec.{ltb}
+use lib.ListN.{length}
+use Rattle.gray.specs.Answers.{Answer, given, refused, fitting}
+use Rattle.gray.specs.Calls.{sizeCall}
 use Rattle.text.specs.Ascii.{ascii}
 use Rattle.text.specs.Decimals.{decimal}
 use Rattle.text.specs.declared.Line.{Line}
@@ -38,6 +41,17 @@ lineText (Moved rank digit down) word =
     ++ directionText down
     ++ ascii "\n"
 lineText (End last) word = ascii "end " ++ decimal last ++ ascii "\n"
+
+-- the first line for a line of counts: a refusal, N over 4,096, or n and N
+abbrev pub isLong : ℕ → Bool
+isLong total = ltb 4096 total
+
+abbrev pub sizedLine : ℕ → Answer ℕ → Line
+sizedLine n (refused k) = Refused k
+sizedLine n (given total) = cond (isLong total) Long (Sizes n total)
+
+unfoldable pub surveyLine : List ℕ → Line
+surveyLine radices = sizedLine (length radices) (sizeCall radices)
 
 -- a line for an output of `room` bytes
 unfoldable pub lineCall : Line → List ℕ → ℕ → Answer (List ℕ)

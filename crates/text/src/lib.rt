@@ -1,5 +1,6 @@
 // The text of the program `walk`: decimal numbers, the line of notch counts that it reads, and the lines that it writes.
 
+use gray::Counted;
 use gray::Written;
 ghost use mathlib.Core.Path.{_≡_};
 ghost use mathlib.Core.Bool.{cond};
@@ -11,7 +12,7 @@ ghost use Rattle.gray.specs.Calls.{writtenAs};
 ghost use Rattle.text.specs.Ascii.{ascii};
 ghost use Rattle.text.specs.Decimals.{digitOf, numberOf, decimal};
 ghost use Rattle.text.specs.Readers.{freshReader, inPhase, byteRead, countKept, fieldRead, lineRead, moreRead, readIn, read as readOf, foundIn};
-ghost use Rattle.text.specs.Lines.{settingText, directionText, lineText, lineCall};
+ghost use Rattle.text.specs.Lines.{settingText, directionText, lineText, surveyLine, lineCall};
 ghost use Rattle.text.specs.Stages.{countOf, Put};
 
 // What `number` answers.
@@ -60,6 +61,9 @@ enum Count {
     Is(u8),
     Unread,
 }
+
+// The most settings that are walked.
+const MOST: u64 = 4096;
 
 // The value of a decimal digit; 10 for any other byte.
 fn digit(byte: u8) -> u64
@@ -427,6 +431,20 @@ fn put_line(line: Line, word: [u8; 48], n: usize, out: &mut [u8]) -> usize
         Line::Moved(rank, digit, down) => put_moved(rank, digit, down, word, n, out),
         Line::End(last) => put_named(b"end ", last, out),
     }
+}
+
+// The first line for a line of counts.
+pub fn survey_line(radices: &[u8]) -> Line
+    ensures { λ r. ⌜ r ≡ surveyLine (now (radices .entry)) ⌝ }
+{
+    let counted = gray::size(radices);
+    let Counted::Size(total) = counted else {
+        return Line::Refused(counted.number());
+    };
+    if MOST < total {
+        return Line::Long;
+    }
+    Line::Sizes(radices.len() as u64, total)
 }
 
 // A line, at the start of `out`. The word has digit 1 first, as an engine's state has it; of its digits the first n are shown.

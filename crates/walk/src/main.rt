@@ -2,7 +2,6 @@
 // The moves are the buffered engine's. What a line of input says and what each line of output holds is proved in `text`.
 
 use ahead::Walk;
-use gray::Counted;
 use gray::Opening;
 use gray::Stepping;
 use gray::Written;
@@ -12,9 +11,6 @@ use text::Reader;
 ghost use Prim.Native.Nat.{_≤_};
 ghost use lib.ListN.{length};
 ghost use Rattle.io.specs.Counts.{Counts};
-
-// The most settings that are walked.
-const MOST: u64 = 4096;
 
 // The reader after a part of the input, and whether there may be more to read.
 struct Progress {
@@ -100,8 +96,9 @@ fn add_moves(fresh: Walk, total: u64, page: &mut [u8], used: usize) -> usize
     at
 }
 
-// The whole walk, with half of n places rounded up, so that the queue is never empty.
-fn add_walk(radices: &[u8], total: u64, page: &mut [u8]) -> usize
+// The lines behind the first one, with half of n places rounded up, so that the queue is never empty.
+fn add_walk(radices: &[u8], total: u64, page: &mut [u8], used: usize) -> usize
+    requires { ⌜ used ≤ length (now page) ⌝ }
     ensures { λ r. ⌜ Counts r (now (page .exit)) ⌝ }
 {
     let n = radices.len();
@@ -110,10 +107,9 @@ fn add_walk(radices: &[u8], total: u64, page: &mut [u8]) -> usize
     let walk = opened.walk;
     let word = walk.word;
     if let Opening::Refused(k) = answer {
-        return add(Line::Refused(k), word, walk.n, page, 0);
+        return add(Line::Refused(k), word, walk.n, page, used);
     }
-    let sized = add(Line::Sizes(n as u64, total), word, walk.n, page, 0);
-    let started = add(Line::Start, word, walk.n, page, sized);
+    let started = add(Line::Start, word, walk.n, page, used);
     add_moves(walk, total, page, started)
 }
 
@@ -121,14 +117,12 @@ fn add_walk(radices: &[u8], total: u64, page: &mut [u8]) -> usize
 fn add_survey(radices: &[u8], page: &mut [u8]) -> usize
     ensures { λ r. ⌜ Counts r (now (page .exit)) ⌝ }
 {
-    let counted = gray::size(radices);
-    let Counted::Size(total) = counted else {
-        return add(Line::Refused(counted.number()), [0; 48], 0, page, 0);
+    let first = text::survey_line(radices);
+    let Line::Sizes(_, total) = first else {
+        return add(first, [0; 48], 0, page, 0);
     };
-    if MOST < total {
-        return add(Line::Long, [0; 48], 0, page, 0);
-    }
-    add_walk(radices, total, page)
+    let sized = add(first, [0; 48], 0, page, 0);
+    add_walk(radices, total, page, sized)
 }
 
 fn add_answer(reader: Reader, page: &mut [u8]) -> usize
