@@ -1,16 +1,16 @@
 // Walks a survey from its first setting to its end, by the buffered engine with half of n places rounded up and then by the disk
-// engine, and prints for each the number of moves and the last setting, or its refusal. Input is one line: notch counts up to
-// 255, sluice n first, with a space after each but the last, which a newline follows. Any other text prints `unread`, a refused
-// survey its number.
+// engine, and prints for each the number of moves and the last setting, or its refusal. Input is a line as `walk` reads it. Any
+// other text prints `unread`, a refused survey its number.
 
 use ahead::Walk;
 use gray::Counted;
 use gray::Opening;
 use gray::Stepping;
+use text::Found;
+use text::Reader;
 use towers::Towers;
 ghost use Prim.Native.Nat.{_≤_};
 ghost use lib.ListN.{length};
-ghost use Rattle.io.specs.Counts.{Counts};
 
 // How a walk came out: the last setting, the moves made, and the answer that ended it.
 struct Finish {
@@ -19,60 +19,12 @@ struct Finish {
     answer: Stepping,
 }
 
-fn print(text: &[u8]) {
-    io::write_all(1, text);
+fn print(bytes: &[u8]) {
+    io::write_all(1, bytes);
 }
 
 fn wide(x: u8) -> u64 {
     x as u64
-}
-
-// A decimal digit's value; 10 for any other byte.
-fn digit(byte: u8) -> usize {
-    if byte < 48 {
-        return 10;
-    }
-    if 57 < byte {
-        return 10;
-    }
-    (byte - 48) as usize
-}
-
-// The counts of a line, kept as far as there is room: 49 are too many already. Gives how many are kept, 0 where the text is no
-// such line.
-fn read_line(text: &[u8], counts: &mut [u8]) -> usize
-    ensures { λ r. ⌜ Counts r (now (counts .exit)) ⌝ }
-{
-    let mut n = 0;
-    let mut count = 0;
-    let mut open = false;
-    let mut i = 0;
-    while i < text.len() {
-        let byte = text[i];
-        let d = digit(byte);
-        i += 1;
-        if d < 10 {
-            count = count * 10 + d;
-            open = true;
-            if 255 < count {
-                return 0;
-            }
-        } else {
-            if !open | ((byte != 10) & (byte != 32)) {
-                return 0;
-            }
-            if n < counts.len() {
-                counts[n] = count as u8;
-                n += 1;
-            }
-            if byte == 10 {
-                return n;
-            }
-            count = 0;
-            open = false;
-        }
-    }
-    0
 }
 
 // Calls of the one engine or the other are made until one does not move, N at the most.
@@ -187,14 +139,18 @@ fn walk_all(radices: &[u8]) {
     walk_disks(radices, total);
 }
 
-fn main() {
-    let mut text = [0u8; 256];
-    let got = io::read_full(0, &mut text);
-    let mut counts = [0u8; 49];
-    let n = read_line(&text[..got], &mut counts);
-    if n == 0 {
+fn walk_line(reader: Reader) {
+    let found = reader.found();
+    let Found::Counts(n) = found else {
         print(b"unread\n");
         return;
-    }
+    };
+    let counts = reader.counts;
     walk_all(&counts[..n]);
+}
+
+fn main() {
+    let mut line = [0u8; 256];
+    let got = io::read_full(0, &mut line);
+    walk_line(Reader::fresh().read(&line[..got]));
 }
