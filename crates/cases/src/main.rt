@@ -1,316 +1,756 @@
-// The boundary of each refusal from both sides, and document 01's first case, through the public calls.
-// Each line is a call and its outcome: a value, or the refusal's number. A writer's line ends with the
-// lent bytes afterwards; before the first call on a buffer they are all 9.
+// A table of calls and their outcomes: each refusal from both sides, and document 01's cases. The input has one call a line;
+// each line is printed, and after it `: ` and the outcome. An empty line, and one that starts with `#`, is printed as it is.
+// A line that cannot be read has the outcome `unread`.
+//
+//     size RADICES                            N, and the number that a caller passes on
+//     rank RADICES, WORD                      a word's rank
+//     word RADICES, RANK, LENT                a rank's word
+//     list RADICES, FROM, COUNT, LENT         the words from a rank on
+//     up DIGIT                                a move's byte, and what its two readers make of it
+//     down DIGIT
+//     write RADICES, CAPACITY, MOVES, LENT    the log of the first moves
+//     read BYTES                              a log's number of moves, and its records of moves
+//     walk open RADICES, CAPACITY             the buffered engine
+//     walk step
+//     disks open RADICES                      the disk engine
+//     disks step
+//
+// Radices and words have digit n first. A writer is lent LENT bytes of 9, 256 at the most; they are printed as they are
+// afterwards. The states of both engines are kept from line to line, and at first no survey is open. A step prints the state that
+// it hands back. Between calls one field of a state can be changed, to make up another; such a line has no outcome:
+//
+//     walk FIELD, VALUE                       n, capacity, place, queued, steps, moves, ended
+//     walk FIELD NUMBER, VALUE                radix, digit, down, counter, entry
+//     disks FIELD, VALUE                      n, turn
+//     disks FIELD NUMBER, VALUE               radix, digit, down, peg
+//
+// Digits are numbered from 1, and so are the queue's entries, the oldest first. For `down` (a direction) and `ended` 1 is yes.
 
+use ahead::Producer;
+use ahead::Walk;
+use bytes::scan::find;
 use gray::Counted;
+use gray::Opening;
 use gray::Ranked;
+use gray::Stepping;
 use gray::Written;
 use movelog::Reading;
+use text::Parsed;
+use towers::Towers;
+ghost use mathlib.Core.Path.{_≡_};
+ghost use Prim.Native.Nat.{_≤_};
+ghost use lib.ListN.{length};
+ghost use Rattle.io.specs.Counts.{Counts};
+
+// The names of a line as numbers: the codes of their letters, two hexadecimal digits each.
+const SIZE: u64 = 0x73697a65;
+
+const RANK: u64 = 0x72616e6b;
+
+const WORD: u64 = 0x776f7264;
+
+const LIST: u64 = 0x6c697374;
+
+const UP: u64 = 0x7570;
+
+const DOWN: u64 = 0x646f776e;
+
+const WRITE: u64 = 0x7772697465;
+
+const READ: u64 = 0x72656164;
+
+const WALK: u64 = 0x77616c6b;
+
+const DISKS: u64 = 0x6469736b73;
+
+const OPEN: u64 = 0x6f70656e;
+
+const STEP: u64 = 0x73746570;
+
+const N: u64 = 0x6e;
+
+const CAPACITY: u64 = 0x6361706163697479;
+
+const PLACE: u64 = 0x706c616365;
+
+const QUEUED: u64 = 0x717565756564;
+
+const STEPS: u64 = 0x7374657073;
+
+const MOVES: u64 = 0x6d6f766573;
+
+const ENDED: u64 = 0x656e646564;
+
+const RADIX: u64 = 0x7261646978;
+
+const DIGIT: u64 = 0x6469676974;
+
+const COUNTER: u64 = 0x636f756e746572;
+
+const ENTRY: u64 = 0x656e747279;
+
+const TURN: u64 = 0x7475726e;
+
+const PEG: u64 = 0x706567;
+
+// How many numbers were read, and whether all could be.
+struct Read {
+    count: usize,
+    whole: bool,
+}
+
+// The states of both engines.
+struct Held {
+    walk: Walk,
+    towers: Towers,
+}
 
 fn print(text: &[u8]) {
     io::write_all(1, text);
 }
 
-fn print_number(n: u64) {
+fn wide(x: u8) -> u64
+    ensures { λ r. ⌜ r ≤ 255 ⌝ }
+{
+    x as u64
+}
+
+// A mark and a number.
+fn print_number(mark: &[u8], n: u64) {
+    print(mark);
     io::print_decimal(1, n);
+}
+
+fn print_byte(mark: &[u8], n: u8) {
+    print_number(mark, wide(n));
+}
+
+// A byte of a list.
+fn print_item(n: u8) {
+    print_byte(b" ", n);
+}
+
+fn print_refused(k: u8) {
+    print_byte(b": refused ", k);
+}
+
+fn print_unread() {
+    print(b": unread");
 }
 
 // Each byte with a space before it.
 fn print_bytes(bytes: &[u8]) {
     let mut i = 0;
     while i < bytes.len() {
-        print(b" ");
-        print_number(wide(bytes[i]));
+        print_item(bytes[i]);
         i += 1;
     }
 }
 
-fn wide(x: u8) -> u64 {
-    x as u64
-}
-
-fn print_value(n: u64) {
-    print(b": ");
-    print_number(n);
-}
-
-fn print_refused(k: u8) {
-    print(b": refused ");
-    print_number(wide(k));
-}
-
-fn size_case(radices: &[u8]) {
-    print(b"size");
-    print_bytes(radices);
-    match gray::size(radices) {
-        Counted::Size(n) => print_value(n),
-        Counted::Refused(k) => print_refused(k),
+// A field's name, from its first letter on.
+fn print_name(name: u64) {
+    print(b"; ");
+    let mut unit: u64 = 0x0100_0000_0000_0000;
+    while 0 < unit {
+        let letter = [(name / unit % 256) as u8];
+        if unit <= name {
+            print(&letter);
+        }
+        unit = unit / 256;
     }
-    print(b"\n");
 }
 
-fn number_case(radices: &[u8]) {
-    print(b"number");
-    print_bytes(radices);
-    print_value(wide(gray::size(radices).number()));
-    print(b"\n");
+fn print_field(name: u64, n: u64) {
+    print_name(name);
+    print_number(b" ", n);
 }
 
-fn rank_case(radices: &[u8], word: &[u8]) {
-    print(b"rank");
-    print_bytes(radices);
-    print(b",");
-    print_bytes(word);
-    match gray::rank(radices, word) {
-        Ranked::Rank(r) => print_value(r),
-        Ranked::Refused(k) => print_refused(k),
+fn least(a: usize, b: usize) -> usize
+    ensures { λ r. ⌜ (r ≤ a) × (r ≤ b) ⌝ }
+{
+    if a < b { a } else { b }
+}
+
+// n, or how many bytes there are where they are fewer.
+fn within(n: u64, bytes: &[u8]) -> usize
+    ensures { λ r. ⌜ Counts r (now (bytes .entry)) ⌝ }
+{
+    least(n as usize, bytes.len())
+}
+
+// A field that has a byte for each of n digits, digit n first.
+fn print_digits(name: u64, bytes: &[u8], n: u64) {
+    print_name(name);
+    let mut i = within(n, bytes);
+    while 0 < i {
+        i -= 1;
+        print_item(bytes[i]);
     }
-    print(b"\n");
 }
 
-// What a writer answers, and the bytes that it was lent.
-fn print_written(answer: Written, out: &[u8]) {
-    match answer {
-        Written::Bytes(n) => print_value(n as u64),
-        Written::Refused(k) => print_refused(k),
-    }
-    print(b";");
-    print_bytes(out);
-    print(b"\n");
-}
-
-fn word_case(radices: &[u8], rank: u64, out: &mut [u8]) {
-    print(b"word");
-    print_bytes(radices);
-    print(b", ");
-    print_number(rank);
-    print_written(gray::word(radices, rank, out), out);
-}
-
-fn list_case(radices: &[u8], from: u64, count: u64, out: &mut [u8]) {
-    print(b"list");
-    print_bytes(radices);
-    print(b", ");
-    print_number(from);
-    print(b", ");
-    print_number(count);
-    print_written(lister::list(radices, from, count, out), out);
-}
-
-fn write_case(radices: &[u8], capacity: usize, moves: u64, out: &mut [u8]) {
-    print(b"write");
-    print_bytes(radices);
-    print(b", ");
-    print_number(capacity as u64);
-    print(b", ");
-    print_number(moves);
-    print_written(movelog::write(radices, capacity, moves, out), out);
-}
-
-// What a log is read as, and the part of it that holds the moves.
-fn read_case(log: &[u8]) {
-    print(b"read");
-    print_bytes(log);
-    match movelog::read(log) {
-        Reading::Moves(t) => print_value(t),
-        Reading::Refused(k) => print_refused(k),
-    }
-    print(b";");
-    print_bytes(movelog::moves(log));
-    print(b"\n");
-}
-
-fn move_case(digit: u8, down: bool) {
-    let byte = gray::move_byte(digit, down);
-    print(b"move ");
-    print_number(wide(digit));
+fn print_direction(down: bool) {
     if down {
         print(b" down");
     } else {
         print(b" up");
     }
-    print_value(wide(byte));
-    print(b"; digit ");
-    print_number(wide(gray::move_digit(byte)));
-    if gray::move_down(byte) {
-        print(b" down\n");
-    } else {
-        print(b" up\n");
+}
+
+fn print_directions(downs: &[bool], n: u64) {
+    print_name(DOWN);
+    let mut i = least(n as usize, downs.len());
+    while 0 < i {
+        i -= 1;
+        print_item(downs[i] as u8);
     }
 }
 
-fn sizes() {
-    let twos = [2u8; 49];
-    size_case(&twos[..0]);
-    size_case(&twos[..1]);
-    size_case(&twos[..48]);
-    size_case(&twos);
-    size_case(b"\x00");
-    size_case(b"\x01");
-    size_case(b"\xff");
+// What the states of both engines have.
+fn print_survey(n: u64, radices: &[u8], word: &[u8], downs: &[bool]) {
+    print_field(N, n);
+    print_digits(RADIX, radices, n);
+    print_digits(DIGIT, word, n);
+    print_directions(downs, n);
 }
 
-fn limits() {
-    let mut fours = [4u8; 31];
-    size_case(&fours);
-    fours[0] = 5;
-    size_case(&fours);
-    // 2^62 + 1,243,840, the smallest N over 2^62 that notch counts up to 255 can make
-    size_case(b"\x40\x31\x1f\x2b\x35\x61\x67\x67\x71\xb3");
-    let mut most = [255u8; 48];
-    size_case(&most);
-    most[47] = 1;
-    size_case(&most);
+// The queue's entries, the oldest first.
+fn print_queue(queue: &[u8], queued: u64) {
+    print_field(QUEUED, queued);
+    print_name(ENTRY);
+    let n = within(queued, queue);
+    print_bytes(&queue[..n]);
 }
 
-fn numbers() {
-    number_case(b"\x02\x03");
-    number_case(b"\x02\x01");
+// A producer of n digits.
+fn print_producer(n: u8, producer: Producer) {
+    let counter = producer.counter;
+    let queue = producer.queue;
+    print_digits(COUNTER, &counter, wide(n) + 1);
+    print_field(PLACE, wide(producer.place));
+    print_queue(&queue, wide(producer.queued));
+    print_field(STEPS, producer.steps);
 }
 
-fn ranks() {
-    rank_case(b"\x02\x03", b"\x00\x00");
-    rank_case(b"\x02\x03", b"\x00\x01");
-    rank_case(b"\x02\x03", b"\x00\x02");
-    rank_case(b"\x02\x03", b"\x01\x02");
-    rank_case(b"\x02\x03", b"\x01\x01");
-    rank_case(b"\x02\x03", b"\x01\x00");
-    rank_case(b"\x02\x03", b"\x00");
-    rank_case(b"\x02\x03", b"\x00\x00\x00");
-    rank_case(b"\x02\x03", b"\x02\x00");
-    rank_case(b"\x02\x03", b"\x00\x03");
-    rank_case(b"\x02\x01", b"\x02\x01");
+fn print_walk(walk: Walk) {
+    let radices = walk.radices;
+    let word = walk.word;
+    let downs = walk.downs;
+    print_survey(wide(walk.n), &radices, &word, &downs);
+    print_field(CAPACITY, wide(walk.capacity));
+    print_producer(walk.n, walk.producer);
+    print_field(MOVES, walk.moves);
+    print_field(ENDED, walk.ended as u64);
 }
 
-fn words() {
-    let mut four = [9u8; 4];
-    word_case(b"\x02\x03", 6, &mut four);
-    word_case(b"\x02\x03", 18446744073709551615, &mut four);
-    word_case(b"\x02\x01", 0, &mut four);
-    word_case(b"\x02\x03", 5, &mut four);
-    let mut two = [9u8; 2];
-    word_case(b"\x02\x03", 0, &mut two);
-    let mut one = [9u8; 1];
-    word_case(b"\x02\x03", 0, &mut one);
-    word_case(b"\x02\x03", 6, &mut one);
+fn print_towers(towers: Towers) {
+    let n = wide(towers.n);
+    let radices = towers.radices;
+    let word = towers.word;
+    let downs = towers.downs;
+    let pegs = towers.pegs;
+    print_survey(n, &radices, &word, &downs);
+    print_field(TURN, wide(towers.turn));
+    print_digits(PEG, &pegs, n);
 }
 
-fn moves() {
-    move_case(1, false);
-    move_case(1, true);
-    move_case(48, true);
-    move_case(127, false);
-    move_case(128, false);
+fn print_opening(answer: Opening) {
+    match answer {
+        Opening::Open => print(b": open"),
+        Opening::Refused(k) => print_refused(k),
+    }
 }
 
-// The sum of rank and count may be more than 64 bits hold.
-fn runs_refused() {
-    let mut out = [9u8; 13];
-    list_case(b"\x02\x01", 0, 0, &mut out);
-    list_case(b"\x02\x03", 6, 1, &mut out);
-    list_case(b"\x02\x03", 7, 0, &mut out);
-    list_case(b"\x02\x03", 1, 18446744073709551615, &mut out);
-    list_case(b"\x02\x03", 18446744073709551615, 1, &mut out);
-    let mut short = [9u8; 11];
-    list_case(b"\x02\x03", 0, 6, &mut short);
-    list_case(b"\x02\x03", 0, 7, &mut short);
+fn print_stepping(answer: Stepping) {
+    match answer {
+        Stepping::Moved(digit, down) => {
+            print_byte(b": moved ", digit);
+            print_direction(down);
+        }
+        Stepping::End => print(b": end"),
+        Stepping::Refused(k) => print_refused(k),
+    }
 }
 
-fn runs() {
-    let mut out = [9u8; 13];
-    list_case(b"\x02\x03", 6, 0, &mut out);
-    list_case(b"\x02\x03", 2, 3, &mut out);
-    list_case(b"\x02\x03", 0, 6, &mut out);
+// Where a name or a number that begins at a place ends: at a space, a comma or the end.
+fn token_end(text: &[u8], from: usize) -> usize
+    requires { ⌜ from ≤ length (now text) ⌝ }
+    ensures { λ r. ⌜ (from ≤ r) × Counts r (now (text .entry)) ⌝ }
+{
+    let space = find(text, from, text.len(), b' ');
+    find(text, from, space, b',')
 }
 
-// One digit; three; and far into the list of 48, past all but two words of it.
-fn windows() {
-    let mut out = [9u8; 13];
-    list_case(b"\x05", 1, 3, &mut out);
-    list_case(b"\x03\x02\x04", 6, 4, &mut out);
-    let twos = [2u8; 48];
-    let mut long = [9u8; 97];
-    list_case(&twos, 281474976710654, 2, &mut long);
+fn none_read() -> Read
+    ensures { λ r. ⌜ r .count ≡ 0 ⌝ }
+{
+    Read {
+        count: 0,
+        whole: false,
+    }
 }
 
-// The log of 2, 3 in full has 28 bytes.
-fn logs_refused() {
-    let mut out = [9u8; 28];
-    write_case(b"\x02\x01", 0, 6, &mut out);
-    write_case(b"\x02\x03", 0, 6, &mut out);
-    write_case(b"\x02\x03", 33, 6, &mut out);
-    write_case(b"\x02\x03", 18446744073709551615, 0, &mut out);
-    write_case(b"\x02\x03", 32, 6, &mut out);
-    write_case(b"\x02\x03", 1, 18446744073709551615, &mut out);
-    let mut short = [9u8; 27];
-    write_case(b"\x02\x03", 1, 5, &mut short);
-    write_case(b"\x02\x03", 1, 6, &mut short);
+// The numbers of a text, with spaces and commas between them.
+fn read_numbers(text: &[u8], numbers: &mut [u64]) -> Read
+    ensures { λ r. ⌜ Counts (r .count) (now (numbers .exit)) ⌝ }
+{
+    let mut n = 0;
+    let mut i = 0;
+    while i < text.len() {
+        let end = token_end(text, i);
+        if i < end {
+            let read = text::number(&text[i..end]);
+            let Parsed::Number(value) = read else {
+                return none_read();
+            };
+            if numbers.len() <= n {
+                return none_read();
+            }
+            numbers[n] = value;
+            n += 1;
+        }
+        i = end + 1;
+    }
+    Read {
+        count: n,
+        whole: true,
+    }
 }
 
-fn logs() {
-    let mut nine = [9u8; 9];
-    write_case(b"\x02\x03", 1, 0, &mut nine);
-    let mut out = [9u8; 28];
-    write_case(b"\x02\x03", 32, 4, &mut out);
-    write_case(b"\x02\x03", 1, 5, &mut out);
+// The same numbers as bytes, where all of them are.
+fn narrow(numbers: &[u64], bytes: &mut [u8]) -> Read
+    ensures { λ r. ⌜ Counts (r .count) (now (bytes .exit)) ⌝ }
+{
+    if bytes.len() < numbers.len() {
+        return none_read();
+    }
+    let mut i = 0;
+    while i < numbers.len() {
+        let value = numbers[i];
+        if 255 < value {
+            return none_read();
+        }
+        bytes[i] = value as u8;
+        i += 1;
+    }
+    Read {
+        count: i,
+        whole: true,
+    }
 }
 
-// Logs of 2, 3: of 4 moves and of 5; no move; the end too early, missing, with another number, cut, followed by a byte, twice.
-fn ends() {
-    read_case(b"\x01\x02\x20\x02\x01\x03\x02\x02\x02\x03\x01\x03\x01\x03\x02\x03\x81");
-    read_case(
-        b"\x01\x02\x01\x02\x01\x03\x02\x02\x02\x03\x01\x03\x01\x03\x02\x03\x81\x03\x81\x04\x00\x00\x00\x00\x00\x00\x00\x05",
-    );
-    read_case(b"\x01\x02\x01\x02\x01\x03\x02\x02\x02");
-    read_case(
-        b"\x01\x02\x01\x02\x01\x03\x02\x02\x02\x03\x01\x03\x01\x03\x02\x03\x81\x04\x00\x00\x00\x00\x00\x00\x00\x05",
-    );
-    read_case(b"\x01\x02\x01\x02\x01\x03\x02\x02\x02\x03\x01\x03\x01\x03\x02\x03\x81\x03\x81");
-    read_case(
-        b"\x01\x02\x01\x02\x01\x03\x02\x02\x02\x03\x01\x03\x01\x03\x02\x03\x81\x03\x81\x04\x05\x00\x00\x00\x00\x00\x00\x00",
-    );
-    read_case(
-        b"\x01\x02\x01\x02\x01\x03\x02\x02\x02\x03\x01\x03\x01\x03\x02\x03\x81\x03\x81\x04\x00\x00\x00\x00\x00\x00\x05",
-    );
-    read_case(
-        b"\x01\x02\x01\x02\x01\x03\x02\x02\x02\x03\x01\x03\x01\x03\x02\x03\x81\x03\x81\x04\x00\x00\x00\x00\x00\x00\x00\x05\x03",
-    );
-    read_case(
-        b"\x01\x02\x01\x02\x01\x03\x02\x02\x02\x04\x00\x00\x00\x00\x00\x00\x00\x05\x04\x00\x00\x00\x00\x00\x00\x00\x05",
-    );
+fn read_bytes(text: &[u8], bytes: &mut [u8]) -> Read
+    ensures { λ r. ⌜ Counts (r .count) (now (bytes .exit)) ⌝ }
+{
+    let mut numbers = [0u64; 256];
+    let read = read_numbers(text, &mut numbers);
+    if !read.whole {
+        return none_read();
+    }
+    let n = read.count;
+    narrow(&numbers[..n], bytes)
 }
 
-// Nothing; a start that is cut; digit records missing, cut and out of order; another kind; a survey and a capacity that are
-// refused; a move in the other direction, of a digit that there is not, and one past the last.
-fn readings() {
-    read_case(b"");
-    read_case(b"\x01\x00");
-    read_case(b"\x01\x02\x01\x02\x01\x03");
-    read_case(b"\x01\x02\x01\x02\x01\x03\x02\x02");
-    read_case(b"\x01\x02\x01\x02\x02\x02\x02\x01\x03");
-    read_case(b"\x01\x01\x01\x02\x01\x02\x05\x01");
-    read_case(b"\x01\x00\x00");
-    read_case(b"\x01\x01\x00\x02\x01\x01\x03\x01");
-    read_case(b"\x01\x01\x00\x02\x01\x02\x03\x81");
-    read_case(b"\x01\x01\x21\x02\x01\x02\x03\x81");
-    read_case(b"\x01\x01\x20\x02\x01\x03\x03\x81");
-    read_case(b"\x01\x01\x20\x02\x01\x03\x03\x02");
-    read_case(b"\x01\x01\x20\x02\x01\x02\x03\x01\x03\x81");
-    read_case(b"\x01\x01\x20\x02\x01\x02\x03\x01\x02\x81");
+fn size_case(radices: &[u8]) {
+    let counted = gray::size(radices);
+    match counted {
+        Counted::Size(n) => print_number(b": ", n),
+        Counted::Refused(k) => print_refused(k),
+    }
+    print_byte(b"; number ", counted.number());
+}
+
+// What a log is read as, and the part of it that holds the moves.
+fn read_case(log: &[u8]) {
+    match movelog::read(log) {
+        Reading::Moves(t) => print_number(b": ", t),
+        Reading::Refused(k) => print_refused(k),
+    }
+    print(b";");
+    print_bytes(movelog::moves(log));
+}
+
+fn move_case(digits: &[u8], down: bool) {
+    if digits.len() != 1 {
+        print_unread();
+        return;
+    }
+    let byte = gray::move_byte(digits[0], down);
+    print_byte(b": ", byte);
+    print_byte(b"; digit ", gray::move_digit(byte));
+    print_direction(gray::move_down(byte));
+}
+
+fn rank_case(radices: &[u8], numbers: &[u64]) {
+    let mut word = [0u8; 64];
+    let read = narrow(numbers, &mut word);
+    if !read.whole {
+        print_unread();
+        return;
+    }
+    let n = read.count;
+    match gray::rank(radices, &word[..n]) {
+        Ranked::Rank(r) => print_number(b": ", r),
+        Ranked::Refused(k) => print_refused(k),
+    }
+}
+
+// The calls whose line has one list and nothing else.
+fn list_call(name: u64, bytes: &[u8]) {
+    match name {
+        SIZE => size_case(bytes),
+        READ => read_case(bytes),
+        UP => move_case(bytes, false),
+        DOWN => move_case(bytes, true),
+        _ => print_unread(),
+    }
+}
+
+// How many numbers a writer's line has.
+fn wanted(name: u64) -> usize {
+    match name {
+        WORD => 2,
+        LIST | WRITE => 3,
+        _ => 0,
+    }
+}
+
+fn written(name: u64, radices: &[u8], from: u64, count: u64, out: &mut [u8]) -> Written {
+    match name {
+        WORD => gray::word(radices, from, out),
+        LIST => lister::list(radices, from, count, out),
+        _ => movelog::write(radices, from as usize, count, out),
+    }
+}
+
+// What a writer answers, and the bytes that it was lent.
+fn write_case(name: u64, radices: &[u8], from: u64, count: u64, out: &mut [u8]) {
+    match written(name, radices, from, count, out) {
+        Written::Bytes(n) => print_number(b": ", n as u64),
+        Written::Refused(k) => print_refused(k),
+    }
+    print(b";");
+    print_bytes(out);
+}
+
+// A writer's call with as many lent bytes as are said, 256 at the most.
+fn lent_case(name: u64, radices: &[u8], from: u64, count: u64, lent: u64) {
+    let mut out = [9u8; 256];
+    let k = within(lent, &out);
+    write_case(name, radices, from, count, &mut out[..k]);
+}
+
+fn writer_call(name: u64, radices: &[u8], numbers: &[u64]) {
+    if numbers.len() != wanted(name) {
+        print_unread();
+        return;
+    }
+    if numbers.len() == 2 {
+        lent_case(name, radices, numbers[0], 1, numbers[1]);
+    } else if numbers.len() == 3 {
+        lent_case(name, radices, numbers[0], numbers[1], numbers[2]);
+    }
+}
+
+fn plain_call(name: u64, bytes: &[u8], numbers: &[u64]) {
+    if name == RANK {
+        rank_case(bytes, numbers);
+    } else if numbers.len() == 0 {
+        list_call(name, bytes);
+    } else {
+        writer_call(name, bytes, numbers);
+    }
+}
+
+// The index of the digit or the entry whose number the bytes begin with; past any array where there is none.
+fn index(bytes: &[u8]) -> usize {
+    if bytes.len() == 0 {
+        return 255;
+    }
+    ((wide(bytes[0]) + 255) % 256) as usize
+}
+
+// Changes one byte of a field, where that field is meant.
+fn put(meant: bool, bytes: &mut [u8], i: usize, value: u8) {
+    if !meant {
+        return;
+    }
+    if i < bytes.len() {
+        bytes[i] = value;
+    } else {
+        print_unread();
+    }
+}
+
+fn put_down(meant: bool, downs: &mut [bool], i: usize, value: bool) {
+    if !meant {
+        return;
+    }
+    if i < downs.len() {
+        downs[i] = value;
+    } else {
+        print_unread();
+    }
+}
+
+// The new value of a field, where that field is meant, or else the old one.
+fn either(meant: bool, value: u8, old: u8) -> u8 {
+    if meant { value } else { old }
+}
+
+// A producer with one of its fields changed, or none.
+fn producer_with(producer: Producer, name: u64, i: usize, value: u8) -> Producer {
+    let mut counter = producer.counter;
+    let mut queue = producer.queue;
+    put(name == COUNTER, &mut counter, i, value);
+    put(name == ENTRY, &mut queue, i, value);
+    Producer {
+        counter: counter,
+        place: either(name == PLACE, value, producer.place),
+        queue: queue,
+        queued: either(name == QUEUED, value, producer.queued),
+        steps: producer.steps,
+    }
+}
+
+// A walk with one of its fields changed, or none.
+fn walk_with(walk: Walk, name: u64, i: usize, value: u8) -> Walk {
+    let mut radices = walk.radices;
+    let mut word = walk.word;
+    let mut downs = walk.downs;
+    put(name == RADIX, &mut radices, i, value);
+    put(name == DIGIT, &mut word, i, value);
+    put_down(name == DOWN, &mut downs, i, value == 1);
+    Walk {
+        producer: producer_with(walk.producer, name, i, value),
+        moves: walk.moves,
+        radices: radices,
+        n: either(name == N, value, walk.n),
+        word: word,
+        capacity: either(name == CAPACITY, value, walk.capacity),
+        downs: downs,
+        ended: either(name == ENDED, value, walk.ended as u8) == 1,
+    }
+}
+
+fn step_walk(walk: Walk) -> Walk {
+    let stepped = walk.step();
+    let answer = stepped.answer;
+    let next = stepped.walk;
+    print_stepping(answer);
+    print_walk(next);
+    next
+}
+
+fn open_walk(walk: Walk, radices: &[u8], capacity: usize) -> Walk {
+    let opened = walk.open(radices, capacity);
+    let answer = opened.answer;
+    print_opening(answer);
+    opened.walk
+}
+
+// A walk with its number of steps or of moves changed.
+fn walk_counted(walk: Walk, name: u64, value: u64) -> Walk {
+    let mut next = walk;
+    if name == MOVES {
+        next.moves = value;
+        return next;
+    }
+    let mut producer = walk.producer;
+    producer.steps = value;
+    next.producer = producer;
+    next
+}
+
+// Whether a walk has such a field: a single byte, or one for each digit or entry.
+fn walk_has(name: u64, single: bool) -> bool {
+    match name {
+        N | CAPACITY | PLACE | QUEUED | ENDED => single,
+        RADIX | DIGIT | DOWN | COUNTER | ENTRY => !single,
+        _ => false,
+    }
+}
+
+fn walk_call(walk: Walk, name: u64, bytes: &[u8], numbers: &[u64]) -> Walk {
+    if name == STEP {
+        return step_walk(walk);
+    }
+    if numbers.len() != 1 {
+        print_unread();
+        return walk;
+    }
+    let value = numbers[0];
+    if name == OPEN {
+        return open_walk(walk, bytes, value as usize);
+    }
+    if (name == STEPS) | (name == MOVES) {
+        return walk_counted(walk, name, value);
+    }
+    if !walk_has(name, bytes.len() == 0) | (255 < value) {
+        print_unread();
+        return walk;
+    }
+    walk_with(walk, name, index(bytes), (value % 256) as u8)
+}
+
+// Towers with one of their fields changed, or none.
+fn towers_with(towers: Towers, name: u64, i: usize, value: u8) -> Towers {
+    let mut radices = towers.radices;
+    let mut word = towers.word;
+    let mut downs = towers.downs;
+    let mut pegs = towers.pegs;
+    put(name == RADIX, &mut radices, i, value);
+    put(name == DIGIT, &mut word, i, value);
+    put_down(name == DOWN, &mut downs, i, value == 1);
+    put(name == PEG, &mut pegs, i, value);
+    Towers {
+        radices: radices,
+        n: either(name == N, value, towers.n),
+        word: word,
+        turn: either(name == TURN, value, towers.turn),
+        downs: downs,
+        pegs: pegs,
+    }
+}
+
+fn towers_have(name: u64, single: bool) -> bool {
+    match name {
+        N | TURN => single,
+        RADIX | DIGIT | DOWN | PEG => !single,
+        _ => false,
+    }
+}
+
+fn step_towers(towers: Towers) -> Towers {
+    let stepped = towers.step();
+    let answer = stepped.answer;
+    let next = stepped.towers;
+    print_stepping(answer);
+    print_towers(next);
+    next
+}
+
+fn open_towers(towers: Towers, radices: &[u8]) -> Towers {
+    let opened = towers.open(radices);
+    let answer = opened.answer;
+    print_opening(answer);
+    opened.towers
+}
+
+fn towers_call(towers: Towers, name: u64, bytes: &[u8], numbers: &[u64]) -> Towers {
+    if name == STEP {
+        return step_towers(towers);
+    }
+    if name == OPEN {
+        return open_towers(towers, bytes);
+    }
+    if numbers.len() != 1 {
+        print_unread();
+        return towers;
+    }
+    let value = numbers[0];
+    if !towers_have(name, bytes.len() == 0) | (255 < value) {
+        print_unread();
+        return towers;
+    }
+    towers_with(towers, name, index(bytes), (value % 256) as u8)
+}
+
+// The call of a line.
+fn call(held: Held, engine: u64, name: u64, bytes: &[u8], numbers: &[u64]) -> Held {
+    let mut walk = held.walk;
+    let mut towers = held.towers;
+    if engine == WALK {
+        walk = walk_call(walk, name, bytes, numbers);
+    } else if engine == DISKS {
+        towers = towers_call(towers, name, bytes, numbers);
+    } else {
+        plain_call(name, bytes, numbers);
+    }
+    Held {
+        walk: walk,
+        towers: towers,
+    }
+}
+
+// A name as a number, by its last eight letters.
+fn key(name: &[u8]) -> u64 {
+    let mut number: u64 = 0;
+    let mut i = 0;
+    while i < name.len() {
+        number = number % 0x0100_0000_0000_0000 * 256 + wide(name[i]);
+        i += 1;
+    }
+    number
+}
+
+// Where the call's name begins: after the engine's, whose end is given, where there is one.
+fn name_start(engine: u64, at: usize, len: usize) -> usize
+    requires { ⌜ at ≤ len ⌝ }
+    ensures { λ r. ⌜ r ≤ len ⌝ }
+{
+    if at == len {
+        return 0;
+    }
+    if (engine == WALK) | (engine == DISKS) {
+        return at + 1;
+    }
+    0
+}
+
+// A call with the rest of its line: a list of bytes, and numbers after a comma.
+fn read_and_call(held: Held, engine: u64, name: u64, text: &[u8]) -> Held {
+    let comma = find(text, 0, text.len(), b',');
+    let mut list = [0u8; 256];
+    let mut rest = [0u64; 64];
+    let listed = read_bytes(&text[0..comma], &mut list);
+    let more = read_numbers(&text[comma..], &mut rest);
+    if !(listed.whole & more.whole) {
+        print_unread();
+        return held;
+    }
+    let n = listed.count;
+    let k = more.count;
+    call(held, engine, name, &list[..n], &rest[..k])
+}
+
+// A line begins with an engine's name or none, and then the call's name.
+fn obey(held: Held, line: &[u8]) -> Held {
+    let at = token_end(line, 0);
+    let engine = key(&line[..at]);
+    let start = name_start(engine, at, line.len());
+    let end = token_end(line, start);
+    let name = key(&line[start..end]);
+    read_and_call(held, engine, name, &line[end..])
+}
+
+// A line that is empty or a heading is only printed.
+fn print_and_obey(held: Held, line: &[u8]) -> Held {
+    print(line);
+    if line.len() == 0 {
+        return held;
+    }
+    if line[0] == b'#' {
+        return held;
+    }
+    obey(held, line)
+}
+
+fn run(lines: &[u8]) {
+    let mut held = Held {
+        walk: Walk::closed(),
+        towers: Towers::closed(),
+    };
+    let mut at = 0;
+    while at < lines.len() {
+        let end = find(lines, at, lines.len(), b'\n');
+        held = print_and_obey(held, &lines[at..end]);
+        print(b"\n");
+        at = end + 1;
+    }
 }
 
 fn main() {
-    sizes();
-    limits();
-    numbers();
-    ranks();
-    words();
-    runs_refused();
-    runs();
-    windows();
-    moves();
-    logs_refused();
-    logs();
-    ends();
-    readings();
+    let mut lines = [0u8; 32768];
+    let got = io::read_full(0, &mut lines);
+    run(&lines[..got]);
 }

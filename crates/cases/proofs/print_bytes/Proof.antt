@@ -1,34 +1,24 @@
 -- `cases::print_bytes` meets its contract: it stays within the bytes and ends. Assumes nothing.
 use Prim.Native.Nat.{_≤_, _-_}
-use mathlib.Core.Path.{_≡_}
-use borrow.Author.Needs.{needs}
 use lib.ListN.{length}
+use borrow.Author.Needs.{needs}
 use Rattle.cases.proofs.print_bytes.Statement.{statement}
 use Rattle.cases.proofs.print_bytes.Tie as tie
 
 abbrev Inv-loop : tie.InvT-loop
-Inv-loop bytes i₀ t3 i = (i ≤ length bytes) × (length t3 ≡ 1)
+Inv-loop bytes i₀ i = i ≤ length bytes
 
 abbrev μ-loop : tie.MeasureT-loop
-μ-loop bytes i₀ t3 i = length bytes - i
+μ-loop bytes i₀ i = length bytes - i
 
 loop-holds : tie.Need-loop-holds Inv-loop μ-loop
 loop-holds c = search needs
 
-slice-aggregate-print : tie.Need-slice-aggregate-print Inv-loop μ-loop
-slice-aggregate-print c = search needs
+shared-slice-read-print-item : tie.Need-shared-slice-read-print-item Inv-loop μ-loop
+shared-slice-read-print-item c = search needs
 
-print-requires : tie.Need-print-requires Inv-loop μ-loop
-print-requires c κs = search needs
-
-shared-slice-read-wide : tie.Need-shared-slice-read-wide Inv-loop μ-loop
-shared-slice-read-wide c = search needs
-
-wide-requires : tie.Need-wide-requires Inv-loop μ-loop
-wide-requires c κs = search needs
-
-print-number-requires : tie.Need-print-number-requires Inv-loop μ-loop
-print-number-requires c κs = search needs
+print-item-requires : tie.Need-print-item-requires Inv-loop μ-loop
+print-item-requires c κs = search needs
 
 add-i : tie.Need-add-i Inv-loop μ-loop
 add-i c = search needs
@@ -49,11 +39,8 @@ print-bytes-spec =
     Inv-loop
     μ-loop
     loop-holds
-    slice-aggregate-print
-    print-requires
-    shared-slice-read-wide
-    wide-requires
-    print-number-requires
+    shared-slice-read-print-item
+    print-item-requires
     add-i
     loop-less
     loop-again
