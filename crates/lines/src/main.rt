@@ -43,15 +43,32 @@ fn first_line(reader: Reader) -> Line {
     text::survey_line(&counts[..k])
 }
 
+// How many bytes are written into an output of `room` bytes, 256 at the most; 0 where the line gets 9, 257 where it gets
+// another number.
+fn written_into(line: Line, room: usize) -> usize {
+    let mut out = [0u8; 256];
+    let k = within(room, &out);
+    let written = text::write_line(line, [0; 48], 0, &mut out[..k]);
+    match written {
+        Written::Bytes(n) => n,
+        Written::Refused(k) => if k == 9 { 0 } else { 257 },
+    }
+}
+
+// A line needs just as many bytes as it has.
 fn print_line(line: Line) {
     let mut out = [0u8; 256];
-    let written = text::write_line(line, [0; 48], 0, &mut out);
-    let Written::Bytes(n) = written else {
-        print(b"refused 9\n");
-        return;
-    };
-    let k = within(n, &out);
-    print(&out[..k]);
+    text::write_line(line, [0; 48], 0, &mut out);
+    let n = within(written_into(line, 256), &out);
+    print(&out[..n]);
+    if written_into(line, n) != n {
+        print(b"refused with its room\n");
+    }
+    if 0 < n {
+        if written_into(line, n - 1) != 0 {
+            print(b"not refused with less\n");
+        }
+    }
 }
 
 // A line, and the same without its newline.
