@@ -15,8 +15,8 @@ use Rattle.gray.specs.Bools.{impossible}
 use Rattle.gray.specs.Radices.{digits}
 use Rattle.gray.specs.Calls.{sizeCall}
 use Rattle.text.specs.Decimals.{value}
-use Rattle.text.specs.Surveys.{Input, counts, unread, newline, space, firstLine, hasNewline, joinedTo, fields, isCount, allCounts, lineAs, inputAs, kept}
-use Rattle.text.specs.Readers.{freshReader, fieldOf, inPhase, byteKept, byteRead, countKept, fieldRead, lineRead, moreRead, readIn, read, foundIn, inputIn, readerInput}
+use Rattle.text.specs.Surveys.{Input, counts, unread, newline, space, firstLine, hasNewline, joinedTo, fields, isCount, allCounts, lineAs, inputAs}
+use Rattle.text.specs.Readers.{freshReader, fieldOf, inPhase, byteKept, byteRead, countKept, fieldRead, lineRead, moreRead, readIn, read, foundIn, inputIn, readerInput, kept}
 use Rattle.text.specs.declared.Phase.{Phase}
 use Rattle.text.specs.declared.Phase.the-variants.{More, Ended, Unread}
 use Rattle.text.specs.declared.Reader.{Reader}

@@ -5,7 +5,7 @@ use Prim.Native.Nat.{ℕ}
 use mathlib.Core.Bool.{Bool, true, false, cond, _&&_, _||_}
 use mathlib.Core.List.{List, [], _∷_, map}
 use lib.Dec.{leb, eqb}
-use lib.ListN.{length, take}
+use lib.ListN.{length}
 use Rattle.text.specs.Decimals.{isNumber, value}
 
 -- what is read: counts, or that there is no line of counts
@@ -53,8 +53,3 @@ lineAs (b ∷ line) = cond (allCounts (fields (b ∷ line))) (counts (map value 
 -- the whole input
 unfoldable pub inputAs : List ℕ → Input
 inputAs input = cond (hasNewline input) (lineAs (firstLine input)) unread
-
--- a reader keeps no more than 49 counts, since 49 are too many already
-abbrev pub kept : Input → Input
-kept (counts cs) = counts (take 49 cs)
-kept unread = unread
