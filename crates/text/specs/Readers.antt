@@ -87,6 +87,6 @@ abbrev pub readerInput : Reader → Input
 readerInput r = inputIn (foundIn (r .phase) (r .kept)) (r .counts)
 
 -- of a line no more than 49 counts are kept, since 49 are too many already
-abbrev pub kept : Input → Input
-kept (counts cs) = counts (take 49 cs)
-kept unread = unread
+abbrev pub upTo49 : Input → Input
+upTo49 (counts cs) = counts (take 49 cs)
+upTo49 unread = unread

@@ -16,7 +16,7 @@ use Rattle.gray.specs.Radices.{digits}
 use Rattle.gray.specs.Calls.{sizeCall}
 use Rattle.text.specs.Decimals.{value}
 use Rattle.text.specs.Surveys.{Input, counts, unread, newline, space, firstLine, hasNewline, joinedTo, fields, isCount, allCounts, lineAs, inputAs}
-use Rattle.text.specs.Readers.{freshReader, fieldOf, inPhase, byteKept, byteRead, countKept, fieldRead, lineRead, moreRead, readIn, read, foundIn, inputIn, readerInput, kept}
+use Rattle.text.specs.Readers.{freshReader, fieldOf, inPhase, byteKept, byteRead, countKept, fieldRead, lineRead, moreRead, readIn, read, foundIn, inputIn, readerInput, upTo49}
 use Rattle.text.specs.declared.Phase.{Phase}
 use Rattle.text.specs.declared.Phase.the-variants.{More, Ended, Unread}
 use Rattle.text.specs.declared.Reader.{Reader}
@@ -213,7 +213,7 @@ module _ (cs f : List ℕ) (r : Reader) (h : Holds cs f r) where
       ∙ ap (λ t. cond t (countKept r (value f) next) (inPhase Unread r)) e
 
   -- what has been read once the line ends with this field
-  last-count : readerInput (countKept r (value f) Ended) ≡ kept (counts (cs ++ (value f ∷ [])))
+  last-count : readerInput (countKept r (value f) Ended) ≡ upTo49 (counts (cs ++ (value f ∷ [])))
   last-count =
       let g = holds-count cs f r (value f) h in
       let q = countKept r (value f) More in
@@ -226,13 +226,13 @@ unread-stays : (r : Reader) (rest : List ℕ) → read (inPhase Unread r) rest �
 unread-stays r rest = stays (inPhase Unread r) rest (λ b. refl)
 
 -- nothing but an answer that cannot be read comes of a field that is no count
-no-answer : (ends : Bool) (cs : List ℕ) → kept (answer ends false false cs) ≡ unread
+no-answer : (ends : Bool) (cs : List ℕ) → upTo49 (answer ends false false cs) ≡ unread
 no-answer true cs = refl
 no-answer false cs = refl
 
 -- ---- a newline
 ends-with : (t : Bool) (rest cs f : List ℕ) (r : Reader) → Holds cs f r → isCount f ≡ t
-    → readerInput (read (fieldRead r Ended) rest) ≡ kept (cond (t && true) (counts (cs ++ (value f ∷ []))) unread)
+    → readerInput (read (fieldRead r Ended) rest) ≡ upTo49 (cond (t && true) (counts (cs ++ (value f ∷ []))) unread)
 ends-with true rest cs f r h e =
     ap (λ q. readerInput (read q rest)) (field-yes cs f r h Ended e)
     ∙ ap readerInput (stays (countKept r (value f) Ended) rest (λ b. refl))
@@ -243,16 +243,16 @@ ends-with false rest cs f r h e =
 -- a line of which something has come
 ends-some : (rest cs f : List ℕ) (r : Reader) → Holds cs f r → (none cs && none f) ≡ false
     → (eqb (r .digits) 0 && eqb (r .kept) 0) ≡ false
-    → readerInput (read (moreRead r 10) rest) ≡ kept (says cs f (10 ∷ rest))
+    → readerInput (read (moreRead r 10) rest) ≡ upTo49 (says cs f (10 ∷ rest))
 unfolding moreRead lineRead hasNewline firstLine fields allCounts
 ends-some rest cs f r h some e =
     ap (λ t. readerInput (read (cond t (inPhase Ended r) (fieldRead r Ended)) rest)) e
     ∙ ends-with (isCount f) rest cs f r h refl
-    ∙ ap (λ g. kept (cond (isCount g && true) (counts (cs ++ (value g ∷ []))) unread)) (sym (append-nil f))
-    ∙ ap (λ t. kept (cond (t && true) (counts []) (cond (isCount (f ++ []) && true) (counts (cs ++ (value (f ++ []) ∷ []))) unread))) (sym some)
+    ∙ ap (λ g. upTo49 (cond (isCount g && true) (counts (cs ++ (value g ∷ []))) unread)) (sym (append-nil f))
+    ∙ ap (λ t. upTo49 (cond (t && true) (counts []) (cond (isCount (f ++ []) && true) (counts (cs ++ (value (f ++ []) ∷ []))) unread))) (sym some)
 
 -- one of which nothing has come
-ends-none : (rest : List ℕ) (r : Reader) → Holds [] [] r → readerInput (read (moreRead r 10) rest) ≡ kept (says [] [] (10 ∷ rest))
+ends-none : (rest : List ℕ) (r : Reader) → Holds [] [] r → readerInput (read (moreRead r 10) rest) ≡ upTo49 (says [] [] (10 ∷ rest))
 unfolding moreRead lineRead hasNewline firstLine
 ends-none rest r h =
     let kept-none = h .keeps in
@@ -262,7 +262,7 @@ ends-none rest r h =
     ∙ ap readerInput (stays (inPhase Ended r) rest (λ b. refl))
     ∙ ap (λ k. counts (take (min k 49) (r .counts))) kept-none
 
-at-newline : (rest cs f : List ℕ) (r : Reader) → Holds cs f r → readerInput (read (moreRead r 10) rest) ≡ kept (says cs f (10 ∷ rest))
+at-newline : (rest cs f : List ℕ) (r : Reader) → Holds cs f r → readerInput (read (moreRead r 10) rest) ≡ upTo49 (says cs f (10 ∷ rest))
 at-newline rest [] [] r h = ends-none rest r h
 at-newline rest [] (a ∷ f) r h =
     let same = h .bytes in
@@ -275,7 +275,7 @@ at-newline rest (c ∷ cs) f r h =
 
 -- ---- a space, and any other byte, if the rest of the input is read as it should be
 Read : List ℕ → Type 0
-Read rest = (cs f : List ℕ) (r : Reader) → Holds cs f r → readerInput (read r rest) ≡ kept (says cs f rest)
+Read rest = (cs f : List ℕ) (r : Reader) → Holds cs f r → readerInput (read r rest) ≡ upTo49 (says cs f rest)
 
 some-counts : (cs : List ℕ) (m : ℕ) → none (cs ++ (m ∷ [])) ≡ false
 some-counts [] m = refl
@@ -306,20 +306,20 @@ next-says rest cs m =
     ∙ ap (λ l. answer (hasNewline rest) false (allCounts gs) l) (append-assoc cs (m ∷ []) (map value gs))
 
 space-with : (t : Bool) (rest : List ℕ) → Read rest → (cs f : List ℕ) (r : Reader) → Holds cs f r → isCount f ≡ t
-    → readerInput (read (fieldRead r More) rest) ≡ kept (says cs f (32 ∷ rest))
+    → readerInput (read (fieldRead r More) rest) ≡ upTo49 (says cs f (32 ∷ rest))
 unfolding Read
 space-with true rest ih cs f r h e =
     ap (λ q. readerInput (read q rest)) (field-yes cs f r h More e)
     ∙ ih (cs ++ (value f ∷ [])) [] (countKept r (value f) More) (holds-count cs f r (value f) h)
-    ∙ ap kept (next-says rest cs (value f) ∙ sym (space-says true rest cs f e))
+    ∙ ap upTo49 (next-says rest cs (value f) ∙ sym (space-says true rest cs f e))
 space-with false rest ih cs f r h e =
     ap (λ q. readerInput (read q rest)) (field-no cs f r h More e)
     ∙ ap readerInput (unread-stays r rest)
     ∙ sym (no-answer (hasNewline rest) (cs ++ (value f ∷ map value (fields (firstLine rest)))))
-    ∙ ap kept (sym (space-says false rest cs f e))
+    ∙ ap upTo49 (sym (space-says false rest cs f e))
 
 at-space : (rest : List ℕ) → Read rest → (cs f : List ℕ) (r : Reader) → Holds cs f r
-    → readerInput (read (moreRead r 32) rest) ≡ kept (says cs f (32 ∷ rest))
+    → readerInput (read (moreRead r 32) rest) ≡ upTo49 (says cs f (32 ∷ rest))
 unfolding moreRead
 at-space rest ih cs f r h = space-with (isCount f) rest ih cs f r h refl
 
@@ -350,7 +350,7 @@ more-says b rest cs f =
     ∙ ap (λ hs. answer (hasNewline rest) false (allCounts hs) (cs ++ map value hs)) (sym (front-byte f b gs))
 
 at-byte : (b : ℕ) (rest : List ℕ) → Read rest → (cs f : List ℕ) (r : Reader) → Holds cs f r → eqb b newline ≡ false → eqb b space ≡ false
-    → readerInput (read (moreRead r b) rest) ≡ kept (says cs f (b ∷ rest))
+    → readerInput (read (moreRead r b) rest) ≡ upTo49 (says cs f (b ∷ rest))
 unfolding moreRead byteRead Read
 at-byte b rest ih cs f r h n s =
     let same = h .bytes in
@@ -361,29 +361,29 @@ at-byte b rest ih cs f r h n s =
           ap (λ q. readerInput (read q rest))
           (there ∙ ap (λ t. cond t (byteKept r b) (inPhase Unread r)) (lt-ltb (r .digits) 3 (omega arith)))
           ∙ ih cs (f ++ (b ∷ [])) (byteKept r b) (holds-byte cs f r b h few)
-          ∙ ap kept (more-says b rest cs f ∙ sym (byte-says b rest cs f n s))
+          ∙ ap upTo49 (more-says b rest cs f ∙ sym (byte-says b rest cs f n s))
       | no full ↦
           ap (λ q. readerInput (read q rest))
           (there ∙ ap (λ t. cond t (byteKept r b) (inPhase Unread r)) (le-ltb (r .digits) 3 (omega arith)))
           ∙ ap readerInput (unread-stays r rest)
           ∙ sym (no-answer (hasNewline rest) (cs ++ map value (front f (joinedTo b gs))))
-          ∙ ap (λ t. kept (answer (hasNewline rest) false t (cs ++ map value (front f (joinedTo b gs)))))
+          ∙ ap (λ t. upTo49 (answer (hasNewline rest) false t (cs ++ map value (front f (joinedTo b gs)))))
           (sym (long-front f b gs (omega arith)))
-          ∙ ap kept (sym (byte-says b rest cs f n s))
+          ∙ ap upTo49 (sym (byte-says b rest cs f n s))
     ]
 
 -- ---- the whole input
 by-byte : (n s : Bool) (b : ℕ) (rest : List ℕ) → Read rest → (cs f : List ℕ) (r : Reader) → Holds cs f r → eqb b newline ≡ n → eqb b space ≡ s
-    → readerInput (read (moreRead r b) rest) ≡ kept (says cs f (b ∷ rest))
+    → readerInput (read (moreRead r b) rest) ≡ upTo49 (says cs f (b ∷ rest))
 by-byte true s b rest ih cs f r h e k =
-    subst (λ (x : ℕ). readerInput (read (moreRead r x) rest) ≡ kept (says cs f (x ∷ rest))) (sym (eqb-true b 10 e))
+    subst (λ (x : ℕ). readerInput (read (moreRead r x) rest) ≡ upTo49 (says cs f (x ∷ rest))) (sym (eqb-true b 10 e))
     (at-newline rest cs f r h)
 by-byte false true b rest ih cs f r h e k =
-    subst (λ (x : ℕ). readerInput (read (moreRead r x) rest) ≡ kept (says cs f (x ∷ rest))) (sym (eqb-true b 32 k))
+    subst (λ (x : ℕ). readerInput (read (moreRead r x) rest) ≡ upTo49 (says cs f (x ∷ rest))) (sym (eqb-true b 32 k))
     (at-space rest ih cs f r h)
 by-byte false false b rest ih cs f r h e k = at-byte b rest ih cs f r h e k
 
-reads : (rest cs f : List ℕ) (r : Reader) → Holds cs f r → readerInput (read r rest) ≡ kept (says cs f rest)
+reads : (rest cs f : List ℕ) (r : Reader) → Holds cs f r → readerInput (read r rest) ≡ upTo49 (says cs f rest)
 unfolding read hasNewline Read
 reads [] cs f r h = ap (λ p. inputIn (foundIn p (r .kept)) (r .counts)) (h .goes-on)
 reads (b ∷ rest) cs f r h =
@@ -391,8 +391,8 @@ reads (b ∷ rest) cs f r h =
     ∙ by-byte (eqb b newline) (eqb b space) b rest (λ cs f r h. reads rest cs f r h) cs f r h refl refl
 
 -- what a reader has found after the whole input is what document 01 says of it, with no more than 49 counts
-pub reader-reads-the-line : (input : List ℕ) → readerInput (read freshReader input) ≡ kept (inputAs input)
-reader-reads-the-line input = reads input [] [] freshReader holds-none ∙ ap kept (says-all input)
+pub reader-reads-the-line : (input : List ℕ) → readerInput (read freshReader input) ≡ upTo49 (inputAs input)
+reader-reads-the-line input = reads input [] [] freshReader holds-none ∙ ap upTo49 (says-all input)
 
 -- ---- the 49th count decides
 too-many : (radices : List ℕ) → 48 < length radices → sizeCall radices ≡ refused 2
