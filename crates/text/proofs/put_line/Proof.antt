@@ -80,49 +80,70 @@ same-length c = search needs
 
 returns : tie.Need-returns
 unfolding lineText
-returns c = said (c .before .before .before .before .before .before .before .before) (c .before .before .before .before .before .enum-told .given .1) (c .before .before .put .ensures) (omega (arith, c .before .before .put .ensures .ends))
+returns c =
+    let put = c .before .before in
+    let told = put .before .before .before in
+    said (told .before .before .before) (told .enum-told .given .1) (put .put .ensures) (omega (arith, put .put .ensures .ends))
 
 same-length-2 : tie.Need-same-length-2
 same-length-2 c = search needs
 
 returns-2 : tie.Need-returns-2
 unfolding lineText
-returns-2 c = said (c .before .before .before .before .before .before .before .before .before) (c .before .before .before .before .before .before .line .given .1) (c .before .before .put-named .ensures .0) (omega (arith, c .before .before .put-named .ensures .1))
+returns-2 c =
+    let put = c .before .before in
+    let told = put .before .before .before .before in
+    said (told .before .before .before) (told .line .given .1) (put .put-named .ensures .0) (omega (arith, put .put-named .ensures .1))
 
 same-length-3 : tie.Need-same-length-3
 same-length-3 c = search needs
 
 returns-3 : tie.Need-returns-3
 unfolding lineText
-returns-3 c = said (c .before .before .before .before .before .before .before .before) (c .before .before .before .before .before .enum-told2 .given .1) (c .before .before .put2 .ensures) (omega (arith, c .before .before .put2 .ensures .ends))
+returns-3 c =
+    let put = c .before .before in
+    let told = put .before .before .before in
+    said (told .before .before .before) (told .enum-told2 .given .1) (put .put2 .ensures) (omega (arith, put .put2 .ensures .ends))
 
 same-length-4 : tie.Need-same-length-4
 same-length-4 c = search needs
 
 returns-4 : tie.Need-returns-4
 unfolding lineText
-returns-4 c = said (c .before .before .before .before .before .before .before .before) (c .before .before .before .before .before .line2 .given .1) (c .before .before .put-sizes .ensures .0) (omega (arith, c .before .before .put-sizes .ensures .1))
+returns-4 c =
+    let put = c .before .before in
+    let told = put .before .before .before in
+    said (told .before .before .before) (told .line2 .given .1) (put .put-sizes .ensures .0) (omega (arith, put .put-sizes .ensures .1))
 
 same-length-5 : tie.Need-same-length-5
 same-length-5 c = search needs
 
 returns-5 : tie.Need-returns-5
 unfolding lineText
-returns-5 c = said (c .before .before .before .before .before .before .before) (c .before .before .before .before .enum-told3 .given .1) (c .before .before .put-start .ensures .0) (omega (arith, c .before .before .put-start .ensures .1))
+returns-5 c =
+    let put = c .before .before in
+    let told = put .before .before in
+    said (told .before .before .before) (told .enum-told3 .given .1) (put .put-start .ensures .0) (omega (arith, put .put-start .ensures .1))
 
 same-length-6 : tie.Need-same-length-6
 same-length-6 c = search needs
 
 returns-6 : tie.Need-returns-6
 unfolding lineText
-returns-6 c = said (c .before .before .before .before .before .before .before .before) (c .before .before .before .before .before .line3 .given .1) (c .before .before .put-moved .ensures .0) (omega (arith, c .before .before .put-moved .ensures .1))
+returns-6 c =
+    let put = c .before .before in
+    let told = put .before .before .before in
+    said (told .before .before .before) (told .line3 .given .1) (put .put-moved .ensures .0) (omega (arith, put .put-moved .ensures .1))
 
 same-length-7 : tie.Need-same-length-7
 same-length-7 c = search needs
 
 returns-7 : tie.Need-returns-7
 unfolding lineText
-returns-7 c = said (c .before .before .before .before .before .before .before .before .before) (c .before .before .before .before .before .before .line4 .given .1) (c .before .before .put-named2 .ensures .0) (omega (arith, c .before .before .put-named2 .ensures .1))
+returns-7 c =
+    let put = c .before .before in
+    let told = put .before .before .before .before in
+    said (told .before .before .before) (told .line4 .given .1) (put .put-named2 .ensures .0) (omega (arith, put .put-named2 .ensures .1))
 
 pub put-line-spec : {M : Type 1} → statement M
 put-line-spec =

@@ -21,7 +21,20 @@ same-length : tie.Need-same-length
 same-length c = search needs
 
 returns : tie.Need-returns
-returns c = (and-then (omega arith) (and-then (omega arith) (c .before .before .before .before .before .before .before .before .before .before .before .put .ensures) (c .before .before .before .before .before .before .before .put-number .ensures .0)) (c .before .before .put2 .ensures), omega (arith, c .before .before .before .before .before .before .before .before .before .before .before .put .ensures .ends, c .before .before .before .before .before .before .before .put-number .ensures .1, c .before .before .put2 .ensures .ends))
+returns c =
+    let after-third = c .before .before in
+    let after-second = after-third .before .before .before .before .before in
+    let after-first = after-second .before .before .before .before in (
+      and-then (omega arith) (and-then (omega arith) (after-first .put .ensures)
+          (after-second .put-number .ensures .0))
+          (after-third .put2 .ensures),
+      omega (
+        arith,
+        after-first .put .ensures .ends,
+        after-second .put-number .ensures .1,
+        after-third .put2 .ensures .ends,
+      ),
+    )
 
 pub put-named-spec : {M : Type 1} → statement M
 put-named-spec =

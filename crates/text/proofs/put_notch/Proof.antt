@@ -31,16 +31,23 @@ put-requires : tie.Need-put-requires
 put-requires c κs = search needs
 
 put-decimal-requires-2 : tie.Need-put-decimal-requires-2
-put-decimal-requires-2 c κs = omega (arith, c .before .before .before .put .ensures .ends, c .before .before .before .put .ensures .room, decimal-length 2 (c .before .before .before .before .before .before .before .before .args .a) (omega arith))
+put-decimal-requires-2 c κs =
+    let point = c .before .before .before in
+    let start = point .before .before .before .before .before in
+    omega (arith, point .put .ensures .ends, point .put .ensures .room, decimal-length 2 (start .args .a) (omega arith))
 
 same-length-2 : tie.Need-same-length-2
 same-length-2 c = search needs
 
 returns-2 : tie.Need-returns-2
 returns-2 c =
-    let a = c .before .before .before .before .before .before .before .before .before .before .before .args .a in (
-      same-text (ap (λ first. cond first [] (ascii ".") ++ decimal a) (sym (c .before .before .before .before .before .before .before .before .before .if1 .left))) (and-then (omega arith) (c .before .before .before .before .before .before .put .ensures) (c .before .before .put-decimal2 .ensures)),
-      omega (arith, c .before .before .before .before .before .before .put .ensures .ends, c .before .before .put-decimal2 .ensures .ends, decimal-length 2 a (omega arith)),
+    let number = c .before .before in
+    let point = number .before .before .before .before in
+    let test = point .before .before .before in
+    let a = test .before .before .args .a in (
+      same-text (ap (λ first. cond first [] (ascii ".") ++ decimal a) (sym (test .if1 .left)))
+          (and-then (omega arith) (point .put .ensures) (number .put-decimal2 .ensures)),
+      omega (arith, point .put .ensures .ends, number .put-decimal2 .ensures .ends, decimal-length 2 a (omega arith)),
     )
 
 pub put-notch-spec : {M : Type 1} → statement M

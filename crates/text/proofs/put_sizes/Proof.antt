@@ -35,7 +35,26 @@ same-length c = search needs
 
 returns : tie.Need-returns
 unfolding lineText
-returns c = (and-then (omega arith) (and-then (omega arith) (and-then (omega arith) (and-then (omega arith) (c .before .before .before .before .before .before .before .before .before .before .before .before .before .before .before .before .before .before .before .before .put .ensures) (c .before .before .before .before .before .before .before .before .before .before .before .before .before .before .before .before .put-number .ensures .0)) (c .before .before .before .before .before .before .before .before .before .before .before .put2 .ensures)) (c .before .before .before .before .before .before .before .put-number2 .ensures .0)) (c .before .before .put3 .ensures), omega (arith, c .before .before .before .before .before .before .before .before .before .before .before .before .before .before .before .before .before .before .before .before .put .ensures .ends, c .before .before .before .before .before .before .before .before .before .before .before .before .before .before .before .before .put-number .ensures .1, c .before .before .before .before .before .before .before .before .before .before .before .put2 .ensures .ends, c .before .before .before .before .before .before .before .put-number2 .ensures .1, c .before .before .put3 .ensures .ends))
+returns c =
+    let after-fifth = c .before .before in
+    let after-fourth = after-fifth .before .before .before .before .before in
+    let after-third = after-fourth .before .before .before .before in
+    let after-second = after-third .before .before .before .before .before in
+    let after-first = after-second .before .before .before .before in (
+      and-then (omega arith) (and-then (omega arith) (and-then (omega arith) (and-then (omega arith) (after-first .put .ensures)
+          (after-second .put-number .ensures .0))
+          (after-third .put2 .ensures))
+          (after-fourth .put-number2 .ensures .0))
+          (after-fifth .put3 .ensures),
+      omega (
+        arith,
+        after-first .put .ensures .ends,
+        after-second .put-number .ensures .1,
+        after-third .put2 .ensures .ends,
+        after-fourth .put-number2 .ensures .1,
+        after-fifth .put3 .ensures .ends,
+      ),
+    )
 
 pub put-sizes-spec : {M : Type 1} → statement M
 put-sizes-spec =

@@ -20,7 +20,17 @@ same-length c = search needs
 
 returns : tie.Need-returns
 unfolding lineText
-returns c = (and-then (omega arith) (c .before .before .before .before .before .before .before .put-ranked .ensures .0) (c .before .before .put .ensures), omega (arith, c .before .before .before .before .before .before .before .put-ranked .ensures .1, c .before .before .put .ensures .ends))
+returns c =
+    let after-second = c .before .before in
+    let after-first = after-second .before .before .before .before .before in (
+      and-then (omega arith) (after-first .put-ranked .ensures .0)
+          (after-second .put .ensures),
+      omega (
+        arith,
+        after-first .put-ranked .ensures .1,
+        after-second .put .ensures .ends,
+      ),
+    )
 
 pub put-start-spec : {M : Type 1} → statement M
 put-start-spec =

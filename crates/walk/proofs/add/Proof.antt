@@ -1,6 +1,6 @@
 -- `walk::add` meets its contract: what is written fits what is left of the page. Assumes nothing.
 use Prim.Native.Nat.{_-_, _≤_}
-use mathlib.Core.Path.{_≡_, sym, ap}
+use mathlib.Core.Path.{sym, ap}
 use native.Mathlib.Omega.{arith}
 use lib.ListN.{length, take, drop, length-take, length-drop}
 use lib.Seq.{length-take-le}
@@ -26,7 +26,7 @@ write-line-requires c κs = search needs
 enum-known-behind : tie.Need-enum-known-behind
 enum-known-behind c = search needs
 
--- what was written behind the page, and at its start
+-- what was written behind fits what was left of the page
 behind : (c : tie.After-known-told)
     → let start = c .before .before .before .before .before .before .before .before in
     c .before .behind .given .0 .0 ≤ length (start .args .page .now) - start .args .used
