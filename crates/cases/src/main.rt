@@ -714,7 +714,7 @@ fn read_and_call(held: Held, engine: u64, name: u64, text: &[u8]) -> Held {
 }
 
 // A line begins with an engine's name or none, and then the call's name.
-fn obey(held: Held, line: &[u8]) -> Held {
+fn call_line(held: Held, line: &[u8]) -> Held {
     let at = token_end(line, 0);
     let engine = key(&line[..at]);
     let start = name_start(engine, at, line.len());
@@ -724,7 +724,7 @@ fn obey(held: Held, line: &[u8]) -> Held {
 }
 
 // A line that is empty or a heading is only printed.
-fn print_and_obey(held: Held, line: &[u8]) -> Held {
+fn print_and_call(held: Held, line: &[u8]) -> Held {
     print(line);
     if line.len() == 0 {
         return held;
@@ -732,7 +732,7 @@ fn print_and_obey(held: Held, line: &[u8]) -> Held {
     if line[0] == b'#' {
         return held;
     }
-    obey(held, line)
+    call_line(held, line)
 }
 
 fn run(lines: &[u8]) {
@@ -743,7 +743,7 @@ fn run(lines: &[u8]) {
     let mut at = 0;
     while at < lines.len() {
         let end = find(lines, at, lines.len(), b'\n');
-        held = print_and_obey(held, &lines[at..end]);
+        held = print_and_call(held, &lines[at..end]);
         print(b"\n");
         at = end + 1;
     }

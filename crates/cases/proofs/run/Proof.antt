@@ -23,17 +23,17 @@ loop-holds c = search needs
 find-requires : tie.Need-find-requires Inv-loop μ-loop
 find-requires c κs = search needs
 
-sub-print-and-obey : tie.Need-sub-print-and-obey Inv-loop μ-loop
-sub-print-and-obey c = search needs
+sub-print-and-call : tie.Need-sub-print-and-call Inv-loop μ-loop
+sub-print-and-call c = search needs
 
-part-print-and-obey-start : tie.Need-part-print-and-obey-start Inv-loop μ-loop
-part-print-and-obey-start c = search needs
+part-print-and-call-start : tie.Need-part-print-and-call-start Inv-loop μ-loop
+part-print-and-call-start c = search needs
 
-part-print-and-obey-end : tie.Need-part-print-and-obey-end Inv-loop μ-loop
-part-print-and-obey-end c = search needs
+part-print-and-call-end : tie.Need-part-print-and-call-end Inv-loop μ-loop
+part-print-and-call-end c = search needs
 
-print-and-obey-requires : tie.Need-print-and-obey-requires Inv-loop μ-loop
-print-and-obey-requires c κs = search needs
+print-and-call-requires : tie.Need-print-and-call-requires Inv-loop μ-loop
+print-and-call-requires c κs = search needs
 
 slice-aggregate-print : tie.Need-slice-aggregate-print Inv-loop μ-loop
 slice-aggregate-print c = search needs
@@ -63,10 +63,10 @@ run-spec =
     closed-requires-2
     loop-holds
     find-requires
-    sub-print-and-obey
-    part-print-and-obey-start
-    part-print-and-obey-end
-    print-and-obey-requires
+    sub-print-and-call
+    part-print-and-call-start
+    part-print-and-call-end
+    print-and-call-requires
     slice-aggregate-print
     print-requires
     add-at
