@@ -1,0 +1,123 @@
+// The calls for C and Rust: numbers and byte slices only, each result one number of 64 bits. Each function is thin: it calls the
+// library and encodes the answer. outside/include/gray.h declares them.
+use gray::Counted;
+use gray::Ranked;
+use gray::Written;
+use movelog::Reading;
+ghost use mathlib.Core.Path.{_≡_};
+ghost use Rattle.gray.specs.Answers.{refused};
+ghost use Rattle.gray.specs.Calls.{countedAs, rankedAs, writtenAs, sizeCall, rankCall, wordCall};
+ghost use Rattle.lister.specs.Calls.{listCall};
+ghost use Rattle.movelog.specs.Calls.{readingAs, writeCall, readCall};
+ghost use Rattle.runs_theory.specs.Runs.{walkMovesCall, diskMovesCall};
+ghost use Rattle.capi.specs.Encoding.{encoded, Sent};
+
+// Minus a refusal's number, as C has it in 64 bits.
+fn minus(k: u8) -> u64
+    ensures { λ r. ⌜ r ≡ encoded (refused k) ⌝ }
+{
+    if k == 0 {
+        return 0;
+    }
+    u64::MAX - (k as u64 - 1)
+}
+
+fn of_counted(counted: Counted) -> u64
+    ensures { λ r. ⌜ r ≡ encoded (countedAs counted) ⌝ }
+{
+    match counted {
+        Counted::Size(n) => n,
+        Counted::Refused(k) => minus(k),
+    }
+}
+
+fn of_ranked(ranked: Ranked) -> u64
+    ensures { λ r. ⌜ r ≡ encoded (rankedAs ranked) ⌝ }
+{
+    match ranked {
+        Ranked::Rank(p) => p,
+        Ranked::Refused(k) => minus(k),
+    }
+}
+
+fn of_written(written: Written) -> u64
+    ensures { λ r. ⌜ r ≡ encoded (writtenAs written) ⌝ }
+{
+    match written {
+        Written::Bytes(n) => n as u64,
+        Written::Refused(k) => minus(k),
+    }
+}
+
+fn of_reading(reading: Reading) -> u64
+    ensures { λ r. ⌜ r ≡ encoded (readingAs reading) ⌝ }
+{
+    match reading {
+        Reading::Moves(t) => t,
+        Reading::Refused(k) => minus(k),
+    }
+}
+
+// N.
+#[no_mangle]
+pub extern "C" fn gray_size(radices: &[u8]) -> u64
+    ensures { λ r. ⌜ r ≡ encoded (sizeCall (now (radices .entry))) ⌝ }
+{
+    of_counted(gray::size(radices))
+}
+
+// The rank of a word (a setting).
+#[no_mangle]
+pub extern "C" fn gray_rank(radices: &[u8], word: &[u8]) -> u64
+    ensures { λ r. ⌜ r ≡ encoded (rankCall (now (radices .entry)) (now (word .entry))) ⌝ }
+{
+    of_ranked(gray::rank(radices, word))
+}
+
+// The word of a rank; the bytes written.
+#[no_mangle]
+pub extern "C" fn gray_word(radices: &[u8], rank: u64, out: &mut [u8]) -> u64
+    ensures { λ r. ⌜ Sent (wordCall (now (radices .entry)) rank) r (now (out .entry)) (now (out .exit)) ⌝ }
+{
+    of_written(gray::word(radices, rank, out))
+}
+
+// A run of words; the bytes written.
+#[no_mangle]
+pub extern "C" fn gray_list(radices: &[u8], from: u64, count: u64, out: &mut [u8]) -> u64
+    ensures { λ r. ⌜ Sent (listCall (now (radices .entry)) from count) r (now (out .entry)) (now (out .exit)) ⌝ }
+{
+    of_written(lister::list(radices, from, count, out))
+}
+
+// The log of the first moves; the bytes written.
+#[no_mangle]
+pub extern "C" fn gray_log_write(radices: &[u8], capacity: usize, moves: u64, out: &mut [u8]) -> u64
+    ensures { λ r. ⌜ Sent (writeCall (now (radices .entry)) capacity moves) r (now (out .entry)) (now (out .exit)) ⌝ }
+{
+    of_written(movelog::write(radices, capacity, moves, out))
+}
+
+// The number of moves of a log.
+#[no_mangle]
+pub extern "C" fn gray_log_read(log: &[u8]) -> u64
+    ensures { λ r. ⌜ r ≡ encoded (readCall (now (log .entry))) ⌝ }
+{
+    of_reading(movelog::read(log))
+}
+
+// A fresh walk by the buffered engine; the moves written.
+#[no_mangle]
+pub extern "C" fn gray_moves(radices: &[u8], capacity: usize, out: &mut [u8]) -> u64
+    ensures { λ r. ⌜ Sent (walkMovesCall (now (radices .entry)) capacity) r (now (out .entry)) (now (out .exit)) ⌝ }
+{
+    of_written(runs::walk_moves(radices, capacity, out))
+}
+
+// The same by the disk engine.
+#[no_mangle]
+pub extern "C" fn gray_towers(radices: &[u8], out: &mut [u8]) -> u64
+    ensures { λ r. ⌜ Sent (diskMovesCall (now (radices .entry))) r (now (out .entry)) (now (out .exit)) ⌝ }
+{
+    of_written(runs::disk_moves(radices, out))
+}

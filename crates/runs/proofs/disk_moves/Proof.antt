@@ -1,0 +1,77 @@
+-- `runs::disk_moves` meets its contract: an opening that is refused passes its number on, and one that is accepted is stepped. Assumes
+-- nothing.
+use mathlib.Core.Path.{_≡_, sym, ap, _∙_}
+use Rattle.gray.specs.Answers.{refused, numberOf}
+use Rattle.gray.specs.Engines.{Handed, openingAs}
+use Rattle.towers.specs.declared.Towers.{Towers}
+use Rattle.towers.specs.Calls.{closedTowers, openedAs, openOf, stepOf}
+use Rattle.runs_theory.specs.Runs.{diskMovesCall}
+use Rattle.runs.proofs.Outputs.{run-refused, run-stepped}
+use borrow.Author.Needs.{needs}
+use Rattle.runs.proofs.disk_moves.Statement.{statement}
+use Rattle.runs.proofs.disk_moves.Tie as tie
+
+closed-requires : tie.Need-closed-requires
+closed-requires c κs = search needs
+
+open-requires : tie.Need-open-requires
+open-requires c κs = search needs
+
+enum-told : tie.Need-enum-told
+enum-told c = search needs
+
+enum-told-2 : tie.Need-enum-told-2
+enum-told-2 c = search needs
+
+number-requires : tie.Need-number-requires
+number-requires c κs = search needs
+
+-- what was opened is the opening of a closed state
+opening : (c : tie.After-open)
+    → let a = c .before .before .before .before .args in
+    openedAs (c .open .result) ≡ openOf closedTowers (a .radices .now)
+opening c =
+    let a = c .before .before .before .before .args in
+    c .open .ensures ∙ ap (λ (s : Towers). openOf s (a .radices .now)) (c .before .closed .ensures)
+
+returns : tie.Need-returns
+unfolding diskMovesCall
+returns c =
+    let told = c .before in
+    let began = told .before .before in
+    let a = began .before .before .before .before .args in
+    run-refused stepOf (openOf closedTowers (a .radices .now)) _ _ _
+    (ap (λ (h : Handed Towers Unit). h .answer) (sym (opening began)) ∙ ap openingAs (told .enum-told2 .given .1))
+    (ap (λ k. refused k) (c .number .ensures ∙ ap (λ o. numberOf (openingAs o)) (told .enum-told2 .given .1)))
+
+put-disks-requires : tie.Need-put-disks-requires
+put-disks-requires c κs = search needs
+
+same-length : tie.Need-same-length
+same-length c = search needs
+
+returns-2 : tie.Need-returns-2
+unfolding diskMovesCall
+returns-2 c =
+    let put = c .before .before in
+    let told = put .before .before in
+    let began = told .before .before in
+    let a = began .before .before .before .before .args in
+    run-stepped stepOf (openOf closedTowers (a .radices .now)) _ _ _ _
+    (ap (λ (h : Handed Towers Unit). h .answer) (sym (opening began)) ∙ ap openingAs (told .enum-told .given .1))
+    (ap (λ (h : Handed Towers Unit). h .state) (sym (opening began)))
+    (put .put-disks .ensures)
+
+pub disk-moves-spec : {M : Type 1} → statement M
+disk-moves-spec =
+    tie.close
+    (tie.spec
+    closed-requires
+    open-requires
+    enum-told
+    enum-told-2
+    number-requires
+    returns
+    put-disks-requires
+    same-length
+    returns-2)

@@ -1,0 +1,2 @@
+-- What private functions answer.
+pub mod Stages

@@ -1,0 +1,159 @@
+-- What both engines write is held to the list, and so to each other: two controllers, one on each, send their motors the same moves.
+use Prim.Native.Nat.{ℕ, zero, suc, _-_, _*_, _≤_, _<_}
+use native.Mathlib.Omega.{arith}
+use mathlib.Core.Path.{_≡_, refl, sym, ap, _∙_}
+use mathlib.Core.Bool.{true}
+use mathlib.Core.List.{List, [], _∷_}
+use native.Mathlib.Decide.{decLt}
+use lib.ListN.{length, take}
+use Rattle.gray.specs.Answers.{Answer, given}
+use Rattle.gray.specs.MoveBytes.{moveByte}
+use Rattle.gray.specs.Changes.{change}
+use Rattle.gray.specs.Radices.{digits, size, allFrom}
+use Rattle.gray.specs.Sizes.{allFrom-weaker, size-pos}
+use Rattle.gray.specs.Engines.{Event, moved, Handed, after, answerOf}
+use Rattle.ahead.specs.Calls as ahead
+use Rattle.ahead.specs.Openings as ahead-opens
+use Rattle.ahead.specs.WorkAhead.{fresh-walks-work-ahead}
+use Rattle.towers.specs.Calls as towers
+use Rattle.towers.specs.Openings as towers-opens
+use Rattle.towers.specs.Walks.{disks-walk-the-list}
+use Rattle.runs_theory.specs.Runs.{moveThen, movesFrom, runOf, walkMovesCall, diskMovesCall, listMoves}
+
+-- calls 1 to d − 1 of a run name their changes, and no later one moves
+pub record StopsAt {S : Type 0} (call : S → Handed S Event) (ms : List ℕ) (s : S) (d : ℕ) : Type 0 where
+  pub from-one : 1 ≤ d
+  pub moves : (j : ℕ) → 1 ≤ j → j < d → answerOf call s j ≡ given (moved (change ms j))
+  pub stops : (j : ℕ) → d ≤ j → (rest : List ℕ) → moveThen (answerOf call s j) rest ≡ []
+
+-- one call more, with the bytes of the calls after it
+one-more : {S : Type 0} (call : S → Handed S Event) (ms : List ℕ) (s : S) (d : ℕ)
+    → StopsAt call ms s d
+    → (k j : ℕ)
+    → suc j < d
+    → movesFrom call (after call s (suc j)) k ≡ take k (listMoves ms (suc j) (d - 1 - suc j))
+    → movesFrom call (after call s j) (suc k) ≡ take (suc k) (listMoves ms j (d - 1 - j))
+unfolding movesFrom listMoves after
+one-more call ms s d run k j more rest =
+    let here : suc j - 1 ≡ j = omega arith in
+    let left : d - 1 - j ≡ suc (d - 1 - suc j) = omega arith in
+    let says : call (after call s j) .answer ≡ given (moved (change ms (suc j)))
+    = ap (λ (i : ℕ). call (after call s i) .answer) (sym here) ∙ run .moves (suc j) (omega arith) more in
+    ap (λ (a : Answer Event). moveThen a (movesFrom call (after call s (suc j)) k)) says
+    ∙ ap (λ l. moveByte (change ms (suc j) .digit) (change ms (suc j) .down) ∷ l) rest
+    ∙ ap (λ t. take (suc k) (listMoves ms j t)) (sym left)
+
+-- no call more: the run is at its last move
+no-more : {S : Type 0} (call : S → Handed S Event) (ms : List ℕ) (s : S) (d : ℕ)
+    → StopsAt call ms s d
+    → (k j : ℕ)
+    → j < d
+    → (suc j < d → ⊥)
+    → movesFrom call (after call s j) (suc k) ≡ take (suc k) (listMoves ms j (d - 1 - j))
+unfolding movesFrom listMoves
+no-more call ms s d run k j h last =
+    let here : suc j - 1 ≡ j = omega arith in
+    let none : d - 1 - j ≡ 0 = omega (arith, last) in
+    let stop : d ≤ suc j = omega (arith, last) in
+    ap (λ (i : ℕ). moveThen (call (after call s i) .answer) (movesFrom call (call (after call s j) .state) k)) (sym here)
+    ∙ run .stops (suc j) stop (movesFrom call (call (after call s j) .state) k)
+    ∙ ap (λ t. take (suc k) (listMoves ms j t)) (sym none)
+
+-- Such a run writes the list's first d − 1 moves, or as many of them as there is room for.
+run-writes : {S : Type 0} (call : S → Handed S Event) (ms : List ℕ) (s : S) (d : ℕ)
+    → StopsAt call ms s d
+    → (k j : ℕ)
+    → j < d
+    → movesFrom call (after call s j) k ≡ take k (listMoves ms j (d - 1 - j))
+unfolding movesFrom
+run-writes call ms s d run zero j h = refl
+run-writes call ms s d run (suc k) j h =
+    elim (decLt (suc j) d) [
+      | yes more ↦ one-more call ms s d run k j more (run-writes call ms s d run k (suc j) more)
+      | no last ↦ no-more call ms s d run k j h last
+    ]
+
+run-from-start : {S : Type 0} (call : S → Handed S Event) (ms : List ℕ) (s : S) (d : ℕ)
+    → StopsAt call ms s d
+    → (room : ℕ)
+    → movesFrom call s room ≡ take room (listMoves ms 0 (d - 1))
+unfolding after
+run-from-start call ms s d run room =
+    let all : d - 1 - 0 ≡ d - 1 = omega arith in
+    let h : 0 < d = run .from-one in
+    run-writes call ms s d run room 0 h ∙ ap (λ t. take room (listMoves ms 0 t)) all
+
+some-word : (ms : List ℕ) → allFrom 2 ms ≡ true → 1 ≤ size ms
+some-word ms two = size-pos ms (allFrom-weaker 2 1 ms (omega arith) two)
+
+-- what an accepted opening and the calls after it write
+run-of-opened : {S : Type 0} (call : S → Handed S Event) (ms : List ℕ) (opened : Handed S Unit) (d room : ℕ)
+    → opened .answer ≡ given tt
+    → StopsAt call ms (opened .state) d
+    → runOf call (opened .answer) (opened .state) room ≡ given (take room (listMoves ms 0 (d - 1)))
+run-of-opened {S} call ms opened d room accepted run =
+    ap (λ (a : Answer Unit). runOf call a (opened .state) room) accepted
+    ∙ ap given (run-from-start call ms (opened .state) d run room)
+
+-- With half of n places, rounded up, the buffered engine writes the list's moves 1 to N − 1, or as many of them as there is room
+-- for.
+pub walk-moves-are-the-lists : (radices : List ℕ) (c room : ℕ)
+    → ahead.openOf ahead.closedWalk radices c .answer ≡ given tt
+    → length (digits radices) ≤ 2 * c
+    → walkMovesCall radices c room ≡ given (take room (listMoves (digits radices) 0 (size (digits radices) - 1)))
+unfolding walkMovesCall
+walk-moves-are-the-lists radices c room accepted places =
+    let ms = digits radices in
+    let walks = fresh-walks-work-ahead ahead.closedWalk radices c accepted .never-dry places in
+    run-of-opened ahead.stepOf ms (ahead.openOf ahead.closedWalk radices c) (size ms) room accepted
+    (record {
+      from-one = some-word ms (ahead-opens.opens-exactly ahead.closedWalk radices c .0 accepted .survey .two);
+      moves = λ j a b. walks .moves j a b .answers;
+      stops = λ j h rest. ap (λ (a : Answer Event). moveThen a rest) (walks .end j h);
+    })
+
+-- With fewer it writes the list's moves up to the call that is dry, call d at the most N.
+pub small-buffers-stop-early : (radices : List ℕ) (c : ℕ)
+    → ahead.openOf ahead.closedWalk radices c .answer ≡ given tt
+    → 2 * c < length (digits radices)
+    → (d : ℕ)
+    × (1 ≤ d)
+    × (d ≤ size (digits radices))
+    × ((room : ℕ) → walkMovesCall radices c room ≡ given (take room (listMoves (digits radices) 0 (d - 1))))
+unfolding walkMovesCall
+small-buffers-stop-early radices c accepted places =
+    let (d, dries) = fresh-walks-work-ahead ahead.closedWalk radices c accepted .dry-within-N places in (
+      d,
+      dries .from-one,
+      dries .within-N,
+      λ room. run-of-opened ahead.stepOf (digits radices) (ahead.openOf ahead.closedWalk radices c) d room accepted
+          (record {
+            from-one = dries .from-one;
+            moves = λ j a b. dries .moves j a b .answers;
+            stops = λ j h rest. ap (λ (a : Answer Event). moveThen a rest) (dries .dry j h);
+          }),
+    )
+
+-- The disk engine writes the list's moves 1 to N − 1 of every survey that it opens.
+pub disk-moves-are-the-lists : (radices : List ℕ) (room : ℕ)
+    → towers.openOf towers.closedTowers radices .answer ≡ given tt
+    → diskMovesCall radices room ≡ given (take room (listMoves (digits radices) 0 (size (digits radices) - 1)))
+unfolding diskMovesCall
+disk-moves-are-the-lists radices room accepted =
+    let ms = digits radices in
+    let walks = disks-walk-the-list towers.closedTowers radices accepted in
+    run-of-opened towers.stepOf ms (towers.openOf towers.closedTowers radices) (size ms) room accepted
+    (record {
+      from-one = some-word ms (towers-opens.opens-exactly towers.closedTowers radices .0 accepted .survey .two);
+      moves = λ j a b. walks .moves j a b .answers;
+      stops = λ j h rest. ap (λ (a : Answer Event). moveThen a rest) (walks .end j h .answers);
+    })
+
+-- Two controllers, one on each engine, agree on every move.
+pub engines-agree : (radices : List ℕ) (c room : ℕ)
+    → ahead.openOf ahead.closedWalk radices c .answer ≡ given tt
+    → length (digits radices) ≤ 2 * c
+    → towers.openOf towers.closedTowers radices .answer ≡ given tt
+    → walkMovesCall radices c room ≡ diskMovesCall radices room
+engines-agree radices c room walk places disks =
+    walk-moves-are-the-lists radices c room walk places ∙ sym (disk-moves-are-the-lists radices room disks)
