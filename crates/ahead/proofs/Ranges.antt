@@ -8,17 +8,17 @@ use borrow.Author.Tests.{le-leb, lt-leb}
 use lib.Dec.{ltb, leb}
 use lib.ListN.{length, getD, take, length-reverse, List·getD-append}
 use lib.Seq.{length-take-le, getD-take, getD-at}
-use Rattle.gray.specs.Answers.{given, refused, refusing, isGiven}
-use Rattle.gray.specs.Radices.{digits, size}
-use Rattle.gray.specs.Directions.{allBelow, digitsInRange}
-use Rattle.gray.specs.Calls.{sizeCall}
-use Rattle.gray.specs.Arrays.{digitArray}
-use Rattle.gray.specs.Filled.{digit-array}
-use Rattle.gray.specs.Refusals.{accepted, radices-accepted, survey-accepted, survey-two, given-unless}
-use Rattle.gray.specs.Engines.{refusedWith}
+use Rattle.gray_theory.specs.Answers.{given, refused, refusing, isGiven}
+use Rattle.gray_theory.specs.Radices.{digits, size}
+use Rattle.gray_theory.specs.Directions.{allBelow, digitsInRange}
+use Rattle.gray_theory.specs.Calls.{sizeCall}
+use Rattle.gray_theory.specs.Arrays.{digitArray}
+use Rattle.gray_theory.specs.Filled.{digit-array}
+use Rattle.gray_theory.specs.Refusals.{accepted, radices-accepted, survey-accepted, survey-two, given-unless}
+use Rattle.gray_theory.specs.Engines.{refusedWith}
 use Rattle.ahead.specs.declared.Progress.{Progress}
 use Rattle.ahead.specs.declared.Walk.{Walk}
-use Rattle.gray.specs.Capacities.{wrongCapacity}
+use Rattle.gray_theory.specs.Capacities.{wrongCapacity}
 use Rattle.ahead.specs.States.{openCheck, survey, places, isPlace, counterInRange, entriesInRange, producerInRange, stepLimit, inRange}
 use Rattle.ahead.specs.Calls.{freshWith, fresh, openWith, openOf}
 use Rattle.ahead.specs.Stages.{assembled, Radices}

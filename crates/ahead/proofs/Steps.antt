@@ -8,10 +8,11 @@ use borrow.Author.Tests.{lt-ltb, le-ltb, eq-eqb, ne-eqb}
 use lib.Dec.{eqb}
 use lib.ListN.{length, getD, set, take, drop}
 use lib.Seq.{length-take-le}
-use Rattle.gray.specs.Answers.{given}
-use Rattle.gray.specs.Directions.{digitInRange, advancedFrom}
-use Rattle.gray.specs.Engines.{ended, refusedWith}
-use Rattle.gray.specs.DigitRanges.{allBelow-each, digit-advanced}
+use Rattle.gray_theory.specs.Answers.{given}
+use Rattle.gray_theory.specs.Directions.{digitInRange}
+use Rattle.gray.specs.Advances.{advancedFrom, digit-advanced}
+use Rattle.gray_theory.specs.Engines.{ended, refusedWith}
+use Rattle.gray_theory.specs.DigitRanges.{allBelow-each}
 use Rattle.gray.specs.declared.Directed.{Directed}
 use Rattle.gray.specs.declared.Stepping.the-variants.{Moved}
 use Rattle.ahead.specs.declared.Producer.{Producer}

@@ -4,11 +4,12 @@ use mathlib.Core.Bool.{true, false, cond, not}
 use mathlib.Core.List.{List, [], _∷_, _++_}
 use lib.Dec.{eqb}
 use lib.ListN.{length, getD, drop, replicate}
-use Rattle.gray.specs.Answers.{Answer, given, refused}
-use Rattle.gray.specs.Radices.{digits}
-use Rattle.gray.specs.Arrays.{filled}
-use Rattle.gray.specs.Directions.{wordMoved, downsMoved}
-use Rattle.gray.specs.Engines.{Event, moved, ended, Handed, refusedWith, openingAs, steppingAs}
+use Rattle.gray_theory.specs.Answers.{Answer, given, refused}
+use Rattle.gray_theory.specs.Radices.{digits}
+use Rattle.gray_theory.specs.Arrays.{filled}
+use Rattle.gray_theory.specs.Directions.{wordMoved, downsMoved}
+use Rattle.gray_theory.specs.Engines.{Event, moved, ended, Handed, refusedWith}
+use Rattle.gray.specs.Enums.{openingAs, steppingAs}
 use Rattle.ahead.specs.declared.Producer.{Producer}
 use Rattle.ahead.specs.declared.Walk.{Walk}
 use Rattle.ahead.specs.declared.Opened.{Opened}

@@ -10,18 +10,18 @@ use mathlib.Core.List.{List, [], _∷_, _++_}
 use borrow.Author.Tests.{eq-eqb, ne-eqb, lt-ltb, le-ltb}
 use lib.Dec.{eqb, ltb}
 use lib.ListN.{length, getD, set, length-append}
-use Rattle.gray.specs.Radices.{size}
-use Rattle.gray.specs.Changes.{ruler}
-use Rattle.gray.specs.Arrays.{filled}
-use Rattle.gray.specs.WalkArrays.{wordArray, downArray}
-use Rattle.gray.specs.Filled.{getD-filled, set-filled, filled-append}
+use Rattle.gray_theory.specs.Radices.{size}
+use Rattle.gray_theory.specs.Changes.{ruler}
+use Rattle.gray_theory.specs.Arrays.{filled}
+use Rattle.gray_theory.specs.WalkArrays.{wordArray, downArray}
+use Rattle.gray_theory.specs.Filled.{getD-filled, set-filled, filled-append}
 use Rattle.ahead.specs.declared.Producer.{Producer}
 use Rattle.ahead.specs.declared.Walk.{Walk}
 use Rattle.ahead.specs.States.{places}
 use Rattle.ahead.specs.Work.{Work, carry, append, idle, countAt, radixAt, runOut, kind, done}
 use Rattle.ahead.specs.InRange.{last-is-two, carries-on as kind-carry, appends-one as kind-append, stays-full as kind-idle}
 use Rattle.ahead.specs.Counters.{mixedDigits, cleared, length-mixedDigits, length-cleared, cleared-at, carry-test, carry-clears, append-counts, ruler-most, ruler-places, allFrom-places, length-places}
-use Rattle.gray.specs.Capacities.{Openable}
+use Rattle.gray_theory.specs.Capacities.{Openable}
 use Rattle.ahead.specs.Positions.{Position, Worked, Worked.carried, Worked.appended, Worked.idled, stepsAt, one, gained, work-steps}
 
 -- ---- the entries queued

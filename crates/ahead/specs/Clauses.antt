@@ -8,10 +8,10 @@ use mathlib.Core.List.{List, _∷_, _++_}
 use borrow.Author.Tests.{ltb-true}
 use lib.Dec.{eqb, ltb}
 use lib.ListN.{length, getD}
-use Rattle.gray.specs.Answers.{given, refused}
-use Rattle.gray.specs.Bools.{impossible}
-use Rattle.gray.specs.Radices.{size}
-use Rattle.gray.specs.Engines.{ended}
+use Rattle.gray_theory.specs.Answers.{given, refused}
+use Rattle.gray_theory.specs.Bools.{impossible}
+use Rattle.gray_theory.specs.Radices.{size}
+use Rattle.gray_theory.specs.Engines.{ended}
 use Rattle.ahead.specs.declared.Producer.{Producer}
 use Rattle.ahead.specs.declared.Walk.{Walk}
 use Rattle.ahead.specs.States.{survey, inRange}
@@ -19,7 +19,7 @@ use Rattle.ahead.specs.Work.{Work, carry, append, idle, countAt, radixAt
 use Rattle.ahead.specs.Calls.{fresh, once, twice, Course, course, dequeued, endOf, moveOf, stepBy, stepOf}
 use Rattle.ahead.specs.Runs.{state, answer, events, Accepting}
 use Rattle.ahead.specs.Demand.{Within, Finished, StepsCounted, NamesChange, WalksTheList, RunsDry, WorksAhead, StaysInRange}
-use Rattle.gray.specs.Capacities.{Openable}
+use Rattle.gray_theory.specs.Capacities.{Openable}
 use Rattle.ahead.specs.Positions.{Position, stepsAt, steps-short}
 use Rattle.ahead.specs.Canonical.{producerAt, walkAt}
 use Rattle.ahead.specs.Rounds.{round, running, running-ranged}

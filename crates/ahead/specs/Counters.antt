@@ -10,11 +10,11 @@ use borrow.Author.Tests.{leb-true, le-leb, lt-ltb, eq-eqb, ne-eqb}
 use lib.Dec.{leb, ltb, eqb, leb·suc-suc}
 use lib.ListN.{length, getD, drop, set, replicate, length-append, length-drop, length-replicate}
 use lib.Seq.{drop-nil}
-use Rattle.gray.specs.Radices.{size, allFrom}
-use Rattle.gray.specs.Changes.{ruler}
-use Rattle.gray.specs.Sizes.{allFrom-append, size-append, quotient-below}
-use Rattle.gray.specs.Increments.{Increment, Increment.no-carry, Increment.carry, increment}
-use Rattle.gray.specs.Rulers.{ruler-carry, ruler-no-carry, ruler-pos}
+use Rattle.gray_theory.specs.Radices.{size, allFrom}
+use Rattle.gray_theory.specs.Changes.{ruler}
+use Rattle.gray_theory.specs.Sizes.{allFrom-append, size-append, quotient-below}
+use Rattle.gray_theory.specs.Increments.{Increment, Increment.no-carry, Increment.carry, increment}
+use Rattle.gray_theory.specs.Rulers.{ruler-carry, ruler-no-carry, ruler-pos}
 use Rattle.ahead.specs.States.{places}
 
 -- the digits of e, digit 1 first

@@ -5,11 +5,11 @@ use mathlib.Core.Path.{_≡_}
 use mathlib.Core.Bool.{true, false}
 use mathlib.Core.List.{List, _∷_, _++_}
 use lib.ListN.{length}
-use Rattle.gray.specs.Answers.{given, refused}
-use Rattle.gray.specs.Radices.{size}
-use Rattle.gray.specs.Words.{member}
-use Rattle.gray.specs.Costs.{cost}
-use Rattle.gray.specs.Engines.{ended, Names}
+use Rattle.gray_theory.specs.Answers.{given, refused}
+use Rattle.gray_theory.specs.Radices.{size}
+use Rattle.gray_theory.specs.Words.{member}
+use Rattle.gray_theory.specs.Costs.{cost}
+use Rattle.gray_theory.specs.Engines.{ended, Names}
 use Rattle.ahead.specs.declared.Walk.{Walk}
 use Rattle.ahead.specs.States.{setting, inRange}
 use Rattle.ahead.specs.Work.{Work, append, runOut}

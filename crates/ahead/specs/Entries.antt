@@ -8,10 +8,10 @@ use mathlib.Core.List.{List, [], _∷_}
 use borrow.Author.Tests.{leb-true}
 use lib.Dec.{leb}
 use lib.ListN.{length}
-use Rattle.gray.specs.Radices.{size, allFrom}
-use Rattle.gray.specs.Sizes.{size-pos}
-use Rattle.gray.specs.Costs.{wholeParts, cost}
-use Rattle.gray.specs.Bounds.{entry-costs-ruler}
+use Rattle.gray_theory.specs.Radices.{size, allFrom}
+use Rattle.gray_theory.specs.Sizes.{size-pos}
+use Rattle.gray_theory.specs.Costs.{wholeParts, cost}
+use Rattle.gray_theory.specs.Bounds.{entry-costs-ruler}
 
 parts-zero : (p : ℕ) (ms : List ℕ) → wholeParts 0 p ms ≡ 0
 unfolding wholeParts

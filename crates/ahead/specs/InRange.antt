@@ -10,18 +10,18 @@ use borrow.Author.Tests.{lt-ltb, ltb-true, le-leb, leb-true, eq-eqb, eqb-true, e
 use lib.Dec.{eqb, ltb, leb}
 use lib.ListN.{length, getD, drop, set, length-append, length-drop, length-set, List·getD-append, List·getD-eq-default}
 use lib.Seq.{length-take-le, getD-drop, getD-set-same, getD-set-other, getD-append-seam}
-use Rattle.gray.specs.Answers.{isGiven}
-use Rattle.gray.specs.Bools.{impossible}
-use Rattle.gray.specs.Directions.{digitsInRange}
-use Rattle.gray.specs.Radices.{allFrom, size}
-use Rattle.gray.specs.Sizes.{radix-two}
-use Rattle.gray.specs.DigitRanges.{allBelow-each, each-allBelow}
+use Rattle.gray_theory.specs.Answers.{isGiven}
+use Rattle.gray_theory.specs.Bools.{impossible}
+use Rattle.gray_theory.specs.Directions.{digitsInRange}
+use Rattle.gray_theory.specs.Radices.{allFrom, size}
+use Rattle.gray_theory.specs.Sizes.{radix-two}
+use Rattle.gray_theory.specs.DigitRanges.{allBelow-each, each-allBelow}
 use Rattle.ahead.specs.declared.Producer.{Producer}
 use Rattle.ahead.specs.declared.Walk.{Walk}
 use Rattle.ahead.specs.States.{survey, openCheck, places, isPlace, counterInRange, entriesInRange, producerInRange, stepLimit, inRange}
 use Rattle.ahead.specs.Work.{Work, carry, append, idle, countAt, radixAt, runOut, kind, done, work}
 use Rattle.ahead.specs.Counters.{allFrom-places, length-places}
-use Rattle.gray.specs.Capacities.{Openable}
+use Rattle.gray_theory.specs.Capacities.{Openable}
 use Rattle.ahead.specs.Openings.{openable}
 use Rattle.ahead.specs.Calls.{once, twice, dequeued}
 

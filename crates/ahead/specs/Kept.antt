@@ -8,10 +8,10 @@ use mathlib.Core.Bool.{Bool, true, false}
 use borrow.Author.Tests.{eq-eqb, ne-eqb}
 use lib.ListN.{getD, length-set}
 use lib.Seq.{getD-take}
-use Rattle.gray.specs.Engines.{refusedWith}
-use Rattle.gray.specs.Radices.{size}
-use Rattle.gray.specs.DigitRanges.{digits-move-in-range}
-use Rattle.gray.specs.Sizes.{radix-two}
+use Rattle.gray_theory.specs.Engines.{refusedWith}
+use Rattle.gray_theory.specs.Radices.{size}
+use Rattle.gray_theory.specs.DigitRanges.{digits-move-in-range}
+use Rattle.gray_theory.specs.Sizes.{radix-two}
 use Rattle.ahead.specs.declared.Walk.{Walk}
 use Rattle.ahead.specs.States.{survey, producerInRange, stepLimit, inRange}
 use Rattle.ahead.specs.Calls.{fresh, closedWalk, twice, faulty, over, dry, removing, course, dequeued, endOf, moveOf, stepBy, stepOf}

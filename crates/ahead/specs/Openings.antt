@@ -4,11 +4,11 @@ use mathlib.Core.Path.{_≡_, refl, ap}
 use mathlib.Core.Logic.{_↔_}
 use mathlib.Core.Bool.{true}
 use mathlib.Core.List.{List}
-use Rattle.gray.specs.Answers.{Answer, given, refused}
-use Rattle.gray.specs.Bools.{impossible}
-use Rattle.gray.specs.Radices.{digits}
-use Rattle.gray.specs.Capacities.{Openable, within-openable, openable-passes}
-use Rattle.gray.specs.Answers.{isGiven}
+use Rattle.gray_theory.specs.Answers.{Answer, given, refused}
+use Rattle.gray_theory.specs.Bools.{impossible}
+use Rattle.gray_theory.specs.Radices.{digits}
+use Rattle.gray_theory.specs.Capacities.{Openable, within-openable, openable-passes}
+use Rattle.gray_theory.specs.Answers.{isGiven}
 use Rattle.ahead.specs.declared.Walk.{Walk}
 use Rattle.ahead.specs.States.{openCheck}
 use Rattle.ahead.specs.Calls.{fresh, openWith, openOf}

@@ -6,16 +6,16 @@ use mathlib.Core.Path.{_≡_, refl, sym, ap, ap₂, _∙_, subst}
 use mathlib.Core.Bool.{Bool, true, false}
 use mathlib.Core.List.{List, [], _∷_, _++_, append-nil}
 use lib.ListN.{length, replicate}
-use Rattle.gray.specs.Answers.{given, refused}
-use Rattle.gray.specs.Radices.{size}
-use Rattle.gray.specs.Costs.{cost}
-use Rattle.gray.specs.Words.{member}
-use Rattle.gray.specs.Rulers.{ruler-pos}
-use Rattle.gray.specs.Members.{member-is-wordAt}
-use Rattle.gray.specs.WalkArrays.{take-word-array, word-array-start, down-array-start}
-use Rattle.gray.specs.Engines.{Event, ended, Handed, refusedWith, after}
-use Rattle.gray.specs.Arrays.{filled}
-use Rattle.gray.specs.Filled.{filled-replicate}
+use Rattle.gray_theory.specs.Answers.{given, refused}
+use Rattle.gray_theory.specs.Radices.{size}
+use Rattle.gray_theory.specs.Costs.{cost}
+use Rattle.gray_theory.specs.Words.{member}
+use Rattle.gray_theory.specs.Rulers.{ruler-pos}
+use Rattle.gray_theory.specs.Members.{member-is-wordAt}
+use Rattle.gray_theory.specs.WalkArrays.{take-word-array, word-array-start, down-array-start}
+use Rattle.gray_theory.specs.Engines.{Event, ended, Handed, refusedWith, after}
+use Rattle.gray_theory.specs.Arrays.{filled}
+use Rattle.gray_theory.specs.Filled.{filled-replicate}
 use Rattle.ahead.specs.declared.Producer.{Producer}
 use Rattle.ahead.specs.declared.Walk.{Walk}
 use Rattle.ahead.specs.States.{places, setting, inRange}
@@ -26,7 +26,7 @@ use Rattle.ahead.specs.Demand.{NamesChange}
 use Rattle.ahead.specs.Kept.{goes-over}
 use Rattle.ahead.specs.Counters.{mixedDigits, mixed-start, length-places}
 use Rattle.ahead.specs.Entries.{cost-zero}
-use Rattle.gray.specs.Capacities.{Openable}
+use Rattle.gray_theory.specs.Capacities.{Openable}
 use Rattle.ahead.specs.Positions.{Position, stepsAt, Ahead, Behind, work-position, work-steps, gain-small, ahead-fresh, ahead-work, ahead-remove, ahead-queued, behind-fresh, behind-work, behind-remove, behind-queued}
 use Rattle.ahead.specs.Canonical.{entries, same-producer, same-walk, producerAt, walkAt}
 use Rattle.ahead.specs.Ranged.{producer-ranged, state-ranged}

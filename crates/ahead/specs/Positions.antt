@@ -10,14 +10,14 @@ use mathlib.Core.Logic.{⊎-elim}
 use mathlib.Core.Bool.{true}
 use mathlib.Core.List.{List}
 use lib.ListN.{length}
-use Rattle.gray.specs.Radices.{size, allFrom}
-use Rattle.gray.specs.Changes.{ruler}
-use Rattle.gray.specs.Costs.{cost}
-use Rattle.gray.specs.Bounds.{entry-costs-ruler, cost-below-double, cost-burst}
-use Rattle.gray.specs.Rulers.{ruler-pos, ruler-at-end}
-use Rattle.gray.specs.Sizes.{allFrom-weaker, size-pos}
+use Rattle.gray_theory.specs.Radices.{size, allFrom}
+use Rattle.gray_theory.specs.Changes.{ruler}
+use Rattle.gray_theory.specs.Costs.{cost}
+use Rattle.gray_theory.specs.Bounds.{entry-costs-ruler, cost-below-double, cost-burst}
+use Rattle.gray_theory.specs.Rulers.{ruler-pos, ruler-at-end}
+use Rattle.gray_theory.specs.Sizes.{allFrom-weaker, size-pos}
 use Rattle.ahead.specs.Work.{Work, carry, append, idle}
-use Rattle.gray.specs.Capacities.{Openable}
+use Rattle.gray_theory.specs.Capacities.{Openable}
 use Rattle.ahead.specs.Entries.{cost-mono, cost-least, cost-from-N}
 
 -- entries t + 1 .. t + k are queued, in at most c places, and p of the carries of the next one are made

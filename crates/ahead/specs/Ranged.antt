@@ -8,18 +8,18 @@ use mathlib.Core.Bool.{Bool, true}
 use mathlib.Core.List.{List, [], _∷_}
 use lib.ListN.{length, getD, List·getD-append}
 use lib.Seq.{getD-at}
-use Rattle.gray.specs.Radices.{size}
-use Rattle.gray.specs.Changes.{ruler}
-use Rattle.gray.specs.Rulers.{ruler-pos}
-use Rattle.gray.specs.Answers.{isGiven}
-use Rattle.gray.specs.Arrays.{filled}
-use Rattle.gray.specs.WalkArrays.{arrays-in-range}
-use Rattle.gray.specs.Filled.{take-filled, getD-filled}
+use Rattle.gray_theory.specs.Radices.{size}
+use Rattle.gray_theory.specs.Changes.{ruler}
+use Rattle.gray_theory.specs.Rulers.{ruler-pos}
+use Rattle.gray_theory.specs.Answers.{isGiven}
+use Rattle.gray_theory.specs.Arrays.{filled}
+use Rattle.gray_theory.specs.WalkArrays.{arrays-in-range}
+use Rattle.gray_theory.specs.Filled.{take-filled, getD-filled}
 use Rattle.ahead.specs.declared.Producer.{Producer}
 use Rattle.ahead.specs.States.{survey, places, producerInRange, stepLimit, inRange}
 use Rattle.ahead.specs.InRange.{IsPlace, says-producer, says-range}
 use Rattle.ahead.specs.Counters.{mixedDigits, cleared, length-mixedDigits, mixed-below, length-cleared, cleared-below, ruler-most, allFrom-places, length-places}
-use Rattle.gray.specs.Capacities.{Openable}
+use Rattle.gray_theory.specs.Capacities.{Openable}
 use Rattle.ahead.specs.Openings.{opens}
 use Rattle.ahead.specs.Positions.{Position, one}
 use Rattle.ahead.specs.Canonical.{entries, length-entries, producerAt, walkAt}

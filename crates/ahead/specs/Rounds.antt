@@ -6,16 +6,16 @@ use mathlib.Core.Path.{_≡_, refl, sym, ap, ap₂, _∙_}
 use mathlib.Core.Bool.{true, false}
 use mathlib.Core.List.{List, [], _∷_, _++_}
 use lib.ListN.{length, getD, drop}
-use Rattle.gray.specs.Answers.{given}
-use Rattle.gray.specs.Radices.{size}
-use Rattle.gray.specs.Changes.{Change, change, ruler}
-use Rattle.gray.specs.Costs.{cost}
-use Rattle.gray.specs.Rulers.{ruler-at-end}
-use Rattle.gray.specs.Turns.{Advances, walk-advances}
-use Rattle.gray.specs.Engines.{moved, ended}
-use Rattle.gray.specs.Arrays.{filled}
-use Rattle.gray.specs.WalkArrays.{word-array-moved, down-array-moved, change-named}
-use Rattle.gray.specs.Filled.{take-filled, filled-drop}
+use Rattle.gray_theory.specs.Answers.{given}
+use Rattle.gray_theory.specs.Radices.{size}
+use Rattle.gray_theory.specs.Changes.{Change, change, ruler}
+use Rattle.gray_theory.specs.Costs.{cost}
+use Rattle.gray_theory.specs.Rulers.{ruler-at-end}
+use Rattle.gray_theory.specs.Turns.{Advances, walk-advances}
+use Rattle.gray_theory.specs.Engines.{moved, ended}
+use Rattle.gray_theory.specs.Arrays.{filled}
+use Rattle.gray_theory.specs.WalkArrays.{word-array-moved, down-array-moved, change-named}
+use Rattle.gray_theory.specs.Filled.{take-filled, filled-drop}
 use Rattle.ahead.specs.declared.Producer.{Producer}
 use Rattle.ahead.specs.declared.Walk.{Walk}
 use Rattle.ahead.specs.States.{survey, places, inRange}
@@ -24,7 +24,7 @@ use Rattle.ahead.specs.Calls.{once, twice, dry, removing, course, dequeu
 use Rattle.ahead.specs.Runs.{eventsBy}
 use Rattle.ahead.specs.Kept.{goes-dry, goes-removing, removes-last, removes-digit}
 use Rattle.ahead.specs.Counters.{mixedDigits, cleared}
-use Rattle.gray.specs.Capacities.{Openable}
+use Rattle.gray_theory.specs.Capacities.{Openable}
 use Rattle.ahead.specs.Positions.{Position, Worked, stepsAt, one, work-position, work-steps, gain-small, counter-lasts}
 use Rattle.ahead.specs.Canonical.{entries, length-entries, entries-first, same-producer, same-walk, producerAt, walkAt, Does, does, not-run-out}
 use Rattle.ahead.specs.Ranged.{producer-ranged, state-ranged}

@@ -2,8 +2,8 @@
 use Prim.Native.Nat.{ℕ, zero, suc, _≤_}
 use mathlib.Core.Path.{_≡_}
 use mathlib.Core.List.{List, [], _∷_, _++_}
-use Rattle.gray.specs.Answers.{Answer, refused}
-use Rattle.gray.specs.Engines.{Event, after, answerOf}
+use Rattle.gray_theory.specs.Answers.{Answer, refused}
+use Rattle.gray_theory.specs.Engines.{Event, after, answerOf}
 use Rattle.ahead.specs.declared.Walk.{Walk}
 use Rattle.ahead.specs.States.{survey}
 use Rattle.ahead.specs.Work.{Work, carry, append, idle, kind}

@@ -4,8 +4,8 @@ use mathlib.Core.Path.{_≡_}
 use mathlib.Core.Bool.{true}
 use mathlib.Core.List.{List}
 use lib.ListN.{length, take}
-use Rattle.gray.specs.Radices.{allFrom}
-use Rattle.gray.specs.Directions.{digitsInRange}
+use Rattle.gray_theory.specs.Radices.{allFrom}
+use Rattle.gray_theory.specs.Directions.{digitsInRange}
 use Rattle.ahead.specs.declared.Producer.{Producer}
 use Rattle.ahead.specs.declared.Progress.{Progress}
 use Rattle.ahead.specs.declared.Walk.{Walk}

@@ -5,10 +5,10 @@ use mathlib.Core.Bool.{Bool, cond, _&&_}
 use mathlib.Core.List.{List, [], _∷_, _++_}
 use lib.Dec.{ltb, leb}
 use lib.ListN.{length, getD, take}
-use Rattle.gray.specs.Answers.{Answer, given, isGiven}
-use Rattle.gray.specs.Radices.{size}
-use Rattle.gray.specs.Capacities.{ofSurvey}
-use Rattle.gray.specs.Directions.{allBelow, digitsInRange}
+use Rattle.gray_theory.specs.Answers.{Answer, given, isGiven}
+use Rattle.gray_theory.specs.Radices.{size}
+use Rattle.gray_theory.specs.Capacities.{ofSurvey}
+use Rattle.gray_theory.specs.Directions.{allBelow, digitsInRange}
 use Rattle.ahead.specs.declared.Producer.{Producer}
 use Rattle.ahead.specs.declared.Walk.{Walk}
 

@@ -4,9 +4,9 @@ use native.Mathlib.Omega.{arith}
 use mathlib.Core.Path.{_≡_, ap, _∙_}
 use mathlib.Core.Bool.{true}
 use mathlib.Core.List.{List, [], _∷_, _++_, append-assoc}
-use Rattle.gray.specs.Radices.{allFrom}
-use Rattle.gray.specs.Costs.{cost}
-use Rattle.gray.specs.Bounds.{entry-costs-ruler, cost-below-double}
+use Rattle.gray_theory.specs.Radices.{allFrom}
+use Rattle.gray_theory.specs.Costs.{cost}
+use Rattle.gray_theory.specs.Bounds.{entry-costs-ruler, cost-below-double}
 use Rattle.ahead.specs.Work.{Work, carry, append, idle}
 use Rattle.ahead.specs.Runs.{useful, appends}
 use Rattle.ahead.specs.Demand.{Finished}

@@ -4,9 +4,9 @@ use Prim.Native.Nat.{ℕ, _-_}
 use native.Mathlib.Omega.{arith}
 use mathlib.Core.Path.{_≡_}
 use mathlib.Core.List.{List}
-use Rattle.gray.specs.Answers.{given}
-use Rattle.gray.specs.Radices.{digits, size}
-use Rattle.gray.specs.Sizes.{size-pos}
+use Rattle.gray_theory.specs.Answers.{given}
+use Rattle.gray_theory.specs.Radices.{digits, size}
+use Rattle.gray_theory.specs.Sizes.{size-pos}
 use Rattle.ahead.specs.declared.Walk.{Walk}
 use Rattle.ahead.specs.Calls.{openOf}
 use Rattle.ahead.specs.Demand.{WorksAhead, StaysInRange}

@@ -2,7 +2,7 @@
 use Prim.Native.Nat.{ℕ}
 use mathlib.Core.Path.{_≡_, ap, _∙_}
 use mathlib.Core.List.{List}
-use Rattle.gray.specs.Answers.{Answer, Wrote}
+use Rattle.gray_theory.specs.Answers.{Answer, Wrote}
 use Rattle.capi.specs.Encoding.{encoded, Sent}
 
 pub sent : (call : ℕ → Answer (List ℕ)) (w : Answer ℕ) (r : ℕ) (before after : List ℕ)

@@ -3,7 +3,7 @@ use Prim.Native.Nat.{ℕ, _-_, _^_, _%_}
 use mathlib.Core.Path.{_≡_}
 use mathlib.Core.List.{List}
 use lib.ListN.{length}
-use Rattle.gray.specs.Answers.{Answer, given, refused, byteCount, outputAfter}
+use Rattle.gray_theory.specs.Answers.{Answer, given, refused, byteCount, outputAfter}
 
 abbrev pub encoded : Answer ℕ → ℕ
 encoded (given value) = value

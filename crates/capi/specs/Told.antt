@@ -2,7 +2,7 @@
 use Prim.Native.Nat.{ℕ, _-_, _^_, _≤_, _<_}
 use native.Mathlib.Omega.{arith}
 use mathlib.Core.Path.{_≡_, ap}
-use Rattle.gray.specs.Answers.{Answer, given, refused}
+use Rattle.gray_theory.specs.Answers.{Answer, given, refused}
 use Rattle.capi.specs.Encoding.{encoded}
 
 -- the answers there are: values below 2^63, which an int64_t holds, and refusals by a number from 1 on

@@ -12,26 +12,27 @@ use lib.Dec.{eqb, leb, ltb}
 use lib.ListN.{length, getD, set, take, drop, replicate, length-reverse, List·getD-append}
 use lib.Seq.{take-all, take-append-le, drop-cons, lt-length-set, getD-at, getD-set-same, drop-set-lt, append-snoc}
 use mir.Val.{boolByte}
-use Rattle.gray.specs.MoveBytes.{moveByte, moveDigit, moveDown}
-use Rattle.gray.specs.Answers.{given, refused}
-use Rattle.gray.specs.Radices.{digits, bytes, size, allFrom, wrongCount}
-use Rattle.gray.specs.Calls.{sizeCall, rankCall, wordCall}
-use Rattle.gray.specs.Faults.{Fault.count, Fault.radix, Fault.many, Fault.none, lowest-fault-is-given}
-use Rattle.gray.specs.Refusals.{accepted, radices-accepted}
+use Rattle.gray_theory.specs.MoveBytes.{moveByte, moveDigit, moveDown}
+use Rattle.gray_theory.specs.Answers.{given, refused}
+use Rattle.gray_theory.specs.Radices.{digits, bytes, size, allFrom, wrongCount}
+use Rattle.gray_theory.specs.Calls.{sizeCall, rankCall, wordCall}
+use Rattle.gray_theory.specs.Faults.{Fault.count, Fault.radix, Fault.many, Fault.none, lowest-fault-is-given}
+use Rattle.gray_theory.specs.Refusals.{accepted, radices-accepted}
 use Rattle.gray.specs.Stages.{productAs, checkedAs, checkNumber}
 use Rattle.gray.specs.declared.Checked.{Checked}
 use Rattle.gray.specs.declared.Checked.the-variants.{Fine, Refused as CheckRefused}
 use Rattle.gray.specs.declared.Product.the-variants.{Within, Over}
-use Rattle.gray.specs.Words.{isWord, reflect, rank, member}
-use Rattle.gray.specs.Members.{wordAt, member-is-wordAt, length-wordAt}
-use Rattle.gray.specs.Ranks.{rank-below}
-use Rattle.gray.specs.Digits.{digits-more, size-taken, isWord-taken, word-long}
-use Rattle.gray.specs.Sizes.{allFrom-weaker}
-use Rattle.gray.specs.Directions.{movedFrom, turnedAt, digitInRange, digitsInRange, wordInRange, advancedFrom}
-use Rattle.gray.specs.DigitRanges.{digit-says, digit-advanced}
-use Rattle.gray.specs.Arrays.{filled}
-use Rattle.gray.specs.Filled.{fill-all, filled-whole}
-use Rattle.gray.specs.Bools.{impossible, neither}
+use Rattle.gray_theory.specs.Words.{isWord, reflect, rank, member}
+use Rattle.gray_theory.specs.Members.{wordAt, member-is-wordAt, length-wordAt}
+use Rattle.gray_theory.specs.Ranks.{rank-below}
+use Rattle.gray_theory.specs.Digits.{digits-more, size-taken, isWord-taken, word-long}
+use Rattle.gray_theory.specs.Sizes.{allFrom-weaker}
+use Rattle.gray_theory.specs.Directions.{movedFrom, turnedAt, digitInRange, digitsInRange, wordInRange}
+use Rattle.gray.specs.Advances.{advancedFrom, digit-advanced}
+use Rattle.gray_theory.specs.DigitRanges.{digit-says}
+use Rattle.gray_theory.specs.Arrays.{filled}
+use Rattle.gray_theory.specs.Filled.{fill-all, filled-whole}
+use Rattle.gray_theory.specs.Bools.{impossible, neither}
 
 -- ---- all_two
 pub tested-more : (k : ℕ) (l : List ℕ) (i : ℕ) (ok : Bool)

@@ -5,9 +5,9 @@ use mathlib.Core.Bool.{Bool, true, cond}
 use mathlib.Core.List.{List, _++_}
 use lib.Dec.{ltb}
 use lib.ListN.{length, drop}
-use Rattle.gray.specs.Radices.{digits, bytes, size, allFrom}
-use Rattle.gray.specs.Words.{isWord}
-use Rattle.gray.specs.Members.{wordAt}
+use Rattle.gray_theory.specs.Radices.{digits, bytes, size, allFrom}
+use Rattle.gray_theory.specs.Words.{isWord}
+use Rattle.gray_theory.specs.Members.{wordAt}
 use Rattle.gray.specs.declared.Product.{Product}
 use Rattle.gray.specs.declared.Product.the-variants.{Within, Over}
 use Rattle.gray.specs.declared.Checked.{Checked}

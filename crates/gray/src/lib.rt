@@ -5,13 +5,15 @@ ghost use mathlib.Core.Path.{_≡_};
 ghost use mathlib.Core.Bool.{true};
 ghost use Prim.Native.Nat.{_^_, _*_, _≤_, _<_};
 ghost use lib.ListN.{length};
-ghost use Rattle.gray.specs.Answers.{numberOf, Wrote};
-ghost use Rattle.gray.specs.Radices.{digits, size as sizeOf, allFrom};
-ghost use Rattle.gray.specs.Words.{reflect as reflected, isWord, rank as rankOf};
-ghost use Rattle.gray.specs.Directions.{turnedAt, digitInRange, wordInRange, advancedFrom};
-ghost use Rattle.gray.specs.Arrays.{digitArray};
-ghost use Rattle.gray.specs.MoveBytes.{moveByte, moveDigit, moveDown};
-ghost use Rattle.gray.specs.Calls.{countedAs, rankedAs, writtenAs, sizeCall, rankCall, wordCall};
+ghost use Rattle.gray_theory.specs.Answers.{numberOf, Wrote};
+ghost use Rattle.gray_theory.specs.Radices.{digits, size as sizeOf, allFrom};
+ghost use Rattle.gray_theory.specs.Words.{reflect as reflected, isWord, rank as rankOf};
+ghost use Rattle.gray_theory.specs.Directions.{turnedAt, digitInRange, wordInRange};
+ghost use Rattle.gray.specs.Advances.{advancedFrom};
+ghost use Rattle.gray_theory.specs.Arrays.{digitArray};
+ghost use Rattle.gray_theory.specs.MoveBytes.{moveByte, moveDigit, moveDown};
+ghost use Rattle.gray_theory.specs.Calls.{sizeCall, rankCall, wordCall};
+ghost use Rattle.gray.specs.Enums.{countedAs, rankedAs, writtenAs};
 ghost use Rattle.gray.specs.Stages.{productAs, checkedAs, checkNumber, Rankable, Room, putWord};
 
 // What `size` answers: N, the number of words (settings) of a mixed-radix system (a survey).

@@ -9,10 +9,10 @@ use native.Mathlib.Decide.{decLt}
 use native.Mathlib.Omega.{arith}
 use lib.ListN.{length, getD, take, drop, set, length-append, length-map, length-drop, length-set, drop-of-length-le}
 use lib.Seq.{drop-cons, length-take-le, take-suc-set, append-snoc}
-use Rattle.gray.specs.Radices.{size}
-use Rattle.gray.specs.Words.{even, upward, downward}
+use Rattle.gray_theory.specs.Radices.{size}
+use Rattle.gray_theory.specs.Words.{even, upward, downward}
 use Rattle.lister.specs.Listers.{blocks, listing}
-use Rattle.gray.specs.Places.{placed}
+use Rattle.gray_theory.specs.Places.{placed}
 use Rattle.lister.specs.Outputs.{window, laid, notchAfter, Reached, RowRoom}
 use Rattle.lister.specs.Reflections.{length-listing}
 use Rattle.lister.proofs.Windows.{window-append, window-none, window-past, one-word, window-map, length-window}

@@ -8,13 +8,13 @@ use mathlib.Core.Bool.{Bool, true, false, cond}
 use mathlib.Core.List.{List, [], _∷_, _++_, map, flatten, append-assoc, append-nil, map-append}
 use lib.ListN.{length, getD, take, drop, length-append, length-drop, List·getD-map}
 use lib.Seq.{length-take-le, take-all, take-suc, getD-drop}
-use Rattle.gray.specs.Radices.{size}
-use Rattle.gray.specs.Members.{getD-upward, getD-downward}
-use Rattle.gray.specs.Words.{even, upward, downward}
+use Rattle.gray_theory.specs.Radices.{size}
+use Rattle.gray_theory.specs.Members.{getD-upward, getD-downward}
+use Rattle.gray_theory.specs.Words.{even, upward, downward}
 use Rattle.lister.specs.Listers.{blocks, listing}
 use Rattle.lister.specs.Outputs.{window, laid, notchAfter, RowRoom}
 use Rattle.lister.specs.Reflections.{length-listing}
-use Rattle.gray.specs.Places.{placed, placed-none, length-placed, placed-append}
+use Rattle.gray_theory.specs.Places.{placed, placed-none, length-placed, placed-append}
 use Rattle.lister.proofs.Windows.{flatten-append}
 
 -- ---- the words of one digit

@@ -8,16 +8,16 @@ use mathlib.Core.List.{List, [], _++_, map, map-id, flatten}
 use borrow.Author.Tests.{lt-ltb, le-ltb}
 use lib.Dec.{ltb}
 use lib.ListN.{length, drop}
-use Rattle.gray.specs.Answers.{given, refused, refusing, fitting, Wrote}
-use Rattle.gray.specs.Radices.{digits, bytes, size, allFrom}
-use Rattle.gray.specs.Reversals.{size-reverse}
-use Rattle.gray.specs.Words.{list}
-use Rattle.gray.specs.Calls.{sizeCall}
-use Rattle.gray.specs.Sizes.{allFrom-weaker}
-use Rattle.gray.specs.Refusals.{accepted, radices-accepted, survey-size, survey-two, wrote-bytes}
+use Rattle.gray_theory.specs.Answers.{given, refused, refusing, fitting, Wrote}
+use Rattle.gray_theory.specs.Radices.{digits, bytes, size, allFrom}
+use Rattle.gray_theory.specs.Reversals.{size-reverse}
+use Rattle.gray_theory.specs.Words.{list}
+use Rattle.gray_theory.specs.Calls.{sizeCall}
+use Rattle.gray_theory.specs.Sizes.{allFrom-weaker}
+use Rattle.gray_theory.specs.Refusals.{accepted, radices-accepted, survey-size, survey-two, wrote-bytes}
 use Rattle.lister.specs.Calls.{wordsFrom, listCall}
 use Rattle.lister.specs.Listers.{listing}
-use Rattle.gray.specs.Places.{placed}
+use Rattle.gray_theory.specs.Places.{placed}
 use Rattle.lister.specs.Outputs.{window, laid, Sized, Reached}
 use Rattle.lister.specs.Reflections.{upward-lister-lists-the-list, length-listing}
 use Rattle.lister.proofs.Windows.{window-map, length-window, each-window, each-listing, length-laid}

@@ -8,8 +8,8 @@ use mathlib.Core.Bool.{true}
 use mathlib.Core.List.{List, _∷_}
 use lib.ListN.{length, getD, take, drop, set, length-set, take-append-drop}
 use lib.Seq.{drop-length, drop-cons, getD-set-same, getD-set-other}
-use Rattle.gray.specs.Radices.{size, allFrom}
-use Rattle.gray.specs.Sizes.{allFrom-take, size-append, size-pos}
+use Rattle.gray_theory.specs.Radices.{size, allFrom}
+use Rattle.gray_theory.specs.Sizes.{allFrom-take, size-append, size-pos}
 use Rattle.lister.specs.Outputs.{Sized}
 
 -- the entries from i on are there, and q is the number of words of the digits from i on

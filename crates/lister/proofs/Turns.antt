@@ -8,8 +8,8 @@ use lib.Dec.{ltb}
 use lib.ListN.{length, getD, take, drop, set, length-set}
 use lib.Seq.{take-take, take-set-le}
 use borrow.Author.Tests.{ltb-true, ltb-false, lt-ltb}
-use Rattle.gray.specs.Radices.{size}
-use Rattle.gray.specs.Words.{even}
+use Rattle.gray_theory.specs.Radices.{size}
+use Rattle.gray_theory.specs.Words.{even}
 use Rattle.lister.specs.Listers.{listing}
 use Rattle.lister.specs.Outputs.{window, laid, notchAfter, Reached, RowRoom}
 use Rattle.lister.proofs.Blocks.{

@@ -9,8 +9,8 @@ use lib.ListN.{length, take, drop, length-append, length-drop, drop-of-length-le
 use lib.Seq.{take-nil, append-snoc}
 use Rattle.lister.specs.Listers.{blocks, listing}
 use Rattle.lister.specs.Outputs.{window, laid}
-use Rattle.gray.specs.Places.{placed, placed-none, placed-append}
-use Rattle.gray.specs.Words.{even, upward, downward}
+use Rattle.gray_theory.specs.Places.{placed, placed-none, placed-append}
+use Rattle.gray_theory.specs.Words.{even, upward, downward}
 
 -- ---- the window
 take-append : (t : ℕ) (a b : List (List ℕ)) → take t (a ++ b) ≡ take t a ++ take (t - length a) b

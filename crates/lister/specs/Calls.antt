@@ -3,9 +3,9 @@ use Prim.Native.Nat.{ℕ, _+_}
 use mathlib.Core.List.{List, map, flatten}
 use lib.Dec.{ltb}
 use lib.ListN.{take, drop}
-use Rattle.gray.specs.Answers.{Answer, refusing, fitting}
-use Rattle.gray.specs.Radices.{digits, bytes, size, ofRadices}
-use Rattle.gray.specs.Words.{list}
+use Rattle.gray_theory.specs.Answers.{Answer, refusing, fitting}
+use Rattle.gray_theory.specs.Radices.{digits, bytes, size, ofRadices}
+use Rattle.gray_theory.specs.Words.{list}
 
 -- the t words (settings) of the list from rank r on
 abbrev pub wordsFrom : List ℕ → ℕ → ℕ → List (List ℕ)

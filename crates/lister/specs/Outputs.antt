@@ -4,8 +4,8 @@ use mathlib.Core.Path.{_≡_}
 use mathlib.Core.Bool.{Bool, true, cond}
 use mathlib.Core.List.{List, _++_, map, flatten}
 use lib.ListN.{length, getD, take, drop}
-use Rattle.gray.specs.Radices.{size, allFrom}
-use Rattle.gray.specs.Places.{placed}
+use Rattle.gray_theory.specs.Radices.{size, allFrom}
+use Rattle.gray_theory.specs.Places.{placed}
 
 -- t words from word s on
 unfoldable pub window : ℕ → ℕ → List (List ℕ) → List (List ℕ)

@@ -4,10 +4,10 @@ use mathlib.Core.Path.{_≡_, refl, sym, ap, _∙_}
 use mathlib.Core.Bool.{Bool, true, false, cond, not}
 use mathlib.Core.List.{List, [], _∷_, _++_, map, reverse, map-append, reverse-cons, reverse-append, reverse-reverse}
 use lib.ListN.{length, length-map, length-reverse}
-use Rattle.gray.specs.Members.{list-has-size}
-use Rattle.gray.specs.Radices.{digits, bytes, size}
-use Rattle.gray.specs.Reversals.{size-reverse}
-use Rattle.gray.specs.Words.{even, upward, downward, list}
+use Rattle.gray_theory.specs.Members.{list-has-size}
+use Rattle.gray_theory.specs.Radices.{digits, bytes, size}
+use Rattle.gray_theory.specs.Reversals.{size-reverse}
+use Rattle.gray_theory.specs.Words.{even, upward, downward, list}
 use Rattle.lister.specs.Listers.{blocks, listing}
 use Rattle.lister.specs.Reversing.{reverse-upward, ending, stacks, reverse-stacks, list-slower}
 

@@ -10,8 +10,8 @@ use mathlib.Core.List.{reverse-cons, reverse-append, reverse-reverse}
 use borrow.Author.Tests.{eqb-true, eqb-false, eq-eqb, ne-eqb}
 use lib.Dec.{eqb}
 use lib.ListN.{length, length-append, length-map, length-reverse}
-use Rattle.gray.specs.Members.{length-upward}
-use Rattle.gray.specs.Words.{even, upward, downward, notches, through, list}
+use Rattle.gray_theory.specs.Members.{length-upward}
+use Rattle.gray_theory.specs.Words.{even, upward, downward, notches, through, list}
 
 reverse-map : {A B : Type 0} (f : A → B) (l : List A) → reverse (map f l) ≡ map f (reverse l)
 reverse-map f [] = refl

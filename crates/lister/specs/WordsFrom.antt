@@ -5,9 +5,9 @@ use mathlib.Core.Path.{_≡_, _∙_}
 use mathlib.Core.List.{List, []}
 use lib.ListN.{length, getD, drop, length-drop}
 use lib.Seq.{getD-take, getD-drop, length-take-le}
-use Rattle.gray.specs.Radices.{size}
-use Rattle.gray.specs.Words.{list, member}
-use Rattle.gray.specs.Members.{list-has-size}
+use Rattle.gray_theory.specs.Radices.{size}
+use Rattle.gray_theory.specs.Words.{list, member}
+use Rattle.gray_theory.specs.Members.{list-has-size}
 use Rattle.lister.specs.Calls.{wordsFrom}
 
 -- word k of them, from 0, is the member of rank r + k

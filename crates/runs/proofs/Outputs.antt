@@ -6,16 +6,17 @@ use mathlib.Core.Path.{_≡_, refl, sym, ap, _∙_}
 use mathlib.Core.Logic.{_⊎_, ⊎-elim}
 use mathlib.Core.List.{List, [], _∷_, _++_, append-nil, append-assoc}
 use lib.ListN.{length, set, drop, length-append}
-use Rattle.gray.specs.Answers.{Answer, given, refused, Wrote}
-use Rattle.gray.specs.MoveBytes.{moveByte}
-use Rattle.gray.specs.Changes.{Change}
-use Rattle.gray.specs.Engines.{Event, moved, ended, Handed, steppingAs}
+use Rattle.gray_theory.specs.Answers.{Answer, given, refused, Wrote}
+use Rattle.gray_theory.specs.MoveBytes.{moveByte}
+use Rattle.gray_theory.specs.Changes.{Change}
+use Rattle.gray_theory.specs.Engines.{Event, moved, ended, Handed}
+use Rattle.gray.specs.Enums.{steppingAs}
 use types.Run.{OneOf}
 use denote.Enum.Declared.{tagOf}
 use Rattle.gray.proofs.Stepping.{the-type}
 use Rattle.gray.specs.declared.Stepping.{Stepping}
 use Rattle.gray.specs.declared.Stepping.the-variants.{Moved, End, Refused}
-use Rattle.gray.specs.Places.{placed, placed-none, placed-set, length-placed}
+use Rattle.gray_theory.specs.Places.{placed, placed-none, placed-set, length-placed}
 use Rattle.runs_theory.specs.Runs.{moveThen, movesFrom, runOf}
 use Rattle.runs.specs.Stages.{Stepped}
 

@@ -3,7 +3,7 @@ use Prim.Native.Nat.{ℕ}
 use mathlib.Core.Path.{_≡_}
 use mathlib.Core.List.{List, _++_}
 use lib.ListN.{length, drop}
-use Rattle.gray.specs.Engines.{Event, Handed}
+use Rattle.gray_theory.specs.Engines.{Event, Handed}
 use Rattle.runs_theory.specs.Runs.{movesFrom}
 
 -- the bytes of the moves, whose number is given, and the rest as it came

@@ -6,12 +6,12 @@ use mathlib.Core.Bool.{true}
 use mathlib.Core.List.{List, [], _∷_}
 use native.Mathlib.Decide.{decLt}
 use lib.ListN.{length, take}
-use Rattle.gray.specs.Answers.{Answer, given}
-use Rattle.gray.specs.MoveBytes.{moveByte}
-use Rattle.gray.specs.Changes.{change}
-use Rattle.gray.specs.Radices.{digits, size, allFrom}
-use Rattle.gray.specs.Sizes.{allFrom-weaker, size-pos}
-use Rattle.gray.specs.Engines.{Event, moved, Handed, after, answerOf}
+use Rattle.gray_theory.specs.Answers.{Answer, given}
+use Rattle.gray_theory.specs.MoveBytes.{moveByte}
+use Rattle.gray_theory.specs.Changes.{change}
+use Rattle.gray_theory.specs.Radices.{digits, size, allFrom}
+use Rattle.gray_theory.specs.Sizes.{allFrom-weaker, size-pos}
+use Rattle.gray_theory.specs.Engines.{Event, moved, Handed, after, answerOf}
 use Rattle.ahead.specs.Calls as ahead
 use Rattle.ahead.specs.Openings as ahead-opens
 use Rattle.ahead.specs.WorkAhead.{fresh-walks-work-ahead}

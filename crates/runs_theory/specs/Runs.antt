@@ -1,10 +1,10 @@
 -- The move bytes of a fresh walk, by either engine: it is stepped until the output is full, the walk ends or a call is dry.
 use Prim.Native.Nat.{ℕ, zero, suc}
 use mathlib.Core.List.{List, [], _∷_}
-use Rattle.gray.specs.Answers.{Answer, given, refused}
-use Rattle.gray.specs.MoveBytes.{moveByte}
-use Rattle.gray.specs.Changes.{change}
-use Rattle.gray.specs.Engines.{Event, moved, ended, Handed}
+use Rattle.gray_theory.specs.Answers.{Answer, given, refused}
+use Rattle.gray_theory.specs.MoveBytes.{moveByte}
+use Rattle.gray_theory.specs.Changes.{change}
+use Rattle.gray_theory.specs.Engines.{Event, moved, ended, Handed}
 use Rattle.ahead.specs.Calls as ahead
 use Rattle.towers.specs.Calls as towers
 

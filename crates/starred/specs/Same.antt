@@ -5,10 +5,10 @@ use mathlib.Core.Bool.{Bool, true, false, _&&_, Bool·beq, and-eq-true-iff}
 use mathlib.Core.List.{List, [], _∷_}
 use borrow.Author.Tests.{eqb-true}
 use lib.Dec.{eqb}
-use Rattle.gray.specs.Answers.{Answer, given, refused}
-use Rattle.gray.specs.Changes.{Change}
-use Rattle.gray.specs.Engines.{Event, moved, ended}
-use Rattle.gray.specs.Bools.{impossible}
+use Rattle.gray_theory.specs.Answers.{Answer, given, refused}
+use Rattle.gray_theory.specs.Changes.{Change}
+use Rattle.gray_theory.specs.Engines.{Event, moved, ended}
+use Rattle.gray_theory.specs.Bools.{impossible}
 
 -- a test of equality
 pub record Test (A : Type 0) : Type 0 where

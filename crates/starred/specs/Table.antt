@@ -6,15 +6,15 @@ use mathlib.Core.Path.{_≡_, refl}
 use mathlib.Core.Bool.{Bool, true, false, cond, _&&_, and-eq-true-iff}
 use mathlib.Core.List.{List, [], _∷_, map, flatten}
 use lib.ListN.{length, getD, take, replicate}
-use Rattle.gray.specs.Answers.{Answer, given, refused}
-use Rattle.gray.specs.Radices.{digits, bytes, size, allFrom}
-use Rattle.gray.specs.Words.{upward, downward, notches, through, list, isWord, rank}
-use Rattle.gray.specs.Changes.{Change, difference, change, ruler}
-use Rattle.gray.specs.Costs.{wholeParts, cost}
-use Rattle.gray.specs.Calls.{sizeCall, rankCall}
-use Rattle.gray.specs.Directions.{allBelow}
-use Rattle.gray.specs.MoveBytes.{moveByte}
-use Rattle.gray.specs.Engines.{Event, moved, ended, after, answerOf}
+use Rattle.gray_theory.specs.Answers.{Answer, given, refused}
+use Rattle.gray_theory.specs.Radices.{digits, bytes, size, allFrom}
+use Rattle.gray_theory.specs.Words.{upward, downward, notches, through, list, isWord, rank}
+use Rattle.gray_theory.specs.Changes.{Change, difference, change, ruler}
+use Rattle.gray_theory.specs.Costs.{wholeParts, cost}
+use Rattle.gray_theory.specs.Calls.{sizeCall, rankCall}
+use Rattle.gray_theory.specs.Directions.{allBelow}
+use Rattle.gray_theory.specs.MoveBytes.{moveByte}
+use Rattle.gray_theory.specs.Engines.{Event, moved, ended, after, answerOf}
 use Rattle.ahead.specs.declared.Walk.{Walk}
 use Rattle.ahead.specs.States.{setting, producerInRange, inRange}
 use Rattle.ahead.specs.Work.{Work, carry, append, idle, kind, done}

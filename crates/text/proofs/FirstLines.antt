@@ -5,8 +5,9 @@ use mathlib.Core.Bool.{cond}
 use mathlib.Core.List.{List}
 use borrow.Author.Tests.{lt-ltb, le-ltb}
 use lib.ListN.{length}
-use Rattle.gray.specs.Answers.{numberOf}
-use Rattle.gray.specs.Calls.{countedAs, sizeCall}
+use Rattle.gray_theory.specs.Answers.{numberOf}
+use Rattle.gray_theory.specs.Calls.{sizeCall}
+use Rattle.gray.specs.Enums.{countedAs}
 use Rattle.gray.specs.declared.Counted.{Counted}
 use Rattle.gray.specs.declared.Counted.the-variants.{Size, Refused as NotSized}
 use Rattle.text.specs.Lines.{sizedLine, surveyLine}

@@ -11,9 +11,9 @@ use borrow.Author.Tests.{eq-eqb, ne-eqb, lt-ltb, le-ltb}
 use lib.Dec.{eqb}
 use lib.ListN.{length, getD, take, drop, set, length-append, length-set, drop-of-length-le}
 use lib.Seq.{take-suc, take-all, take-at, drop-cons, getD-take, length-take-le}
-use Rattle.gray.specs.Answers.{given, refused, Wrote}
-use Rattle.gray.specs.Refusals.{wrote-nothing, wrote-bytes}
-use Rattle.gray.specs.Places.{placed, placed-none, placed-set, placed-append}
+use Rattle.gray_theory.specs.Answers.{given, refused, Wrote}
+use Rattle.gray_theory.specs.Refusals.{wrote-nothing, wrote-bytes}
+use Rattle.gray_theory.specs.Places.{placed, placed-none, placed-set, placed-append}
 use Rattle.text.specs.Ascii.{ascii}
 use Rattle.text.specs.Decimals.{glyph, decimal}
 use Rattle.text.specs.Lines.{pointAfter, settingText, lineText, lineCall}

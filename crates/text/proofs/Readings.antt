@@ -7,7 +7,7 @@ use mathlib.Core.List.{List}
 use borrow.Author.Tests.{le-ltb, le-leb, lt-leb, eq-eqb, ne-eqb}
 use lib.Dec.{leb}
 use lib.ListN.{length}
-use Rattle.gray.specs.Bools.{impossible}
+use Rattle.gray_theory.specs.Bools.{impossible}
 use Rattle.text.specs.Decimals.{value, isNumber, numberOf}
 use Rattle.text.specs.Surveys.{isCount}
 use Rattle.text.specs.Stages.{countOf}

@@ -7,8 +7,8 @@ use mathlib.Core.List.{List}
 use borrow.Author.Tests.{ltb-false}
 use lib.Dec.{ltb}
 use lib.ListN.{length}
-use Rattle.gray.specs.Answers.{Answer, given, refused, byteCount, Wrote}
-use Rattle.gray.specs.Bools.{impossible}
+use Rattle.gray_theory.specs.Answers.{Answer, given, refused, byteCount, Wrote}
+use Rattle.gray_theory.specs.Bools.{impossible}
 use Rattle.text.specs.Lines.{lineText, lineCall}
 use Rattle.text.specs.declared.Line.{Line}
 

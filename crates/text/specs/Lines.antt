@@ -4,8 +4,8 @@ use mathlib.Core.Bool.{Bool, cond}
 use mathlib.Core.List.{List, [], _∷_, _++_}
 use lib.Dec.{ltb}
 use lib.ListN.{length}
-use Rattle.gray.specs.Answers.{Answer, given, refused, fitting}
-use Rattle.gray.specs.Calls.{sizeCall}
+use Rattle.gray_theory.specs.Answers.{Answer, given, refused, fitting}
+use Rattle.gray_theory.specs.Calls.{sizeCall}
 use Rattle.text.specs.Ascii.{ascii}
 use Rattle.text.specs.Decimals.{decimal}
 use Rattle.text.specs.declared.Line.{Line}

@@ -4,12 +4,12 @@ use Prim.Native.Nat.{ℕ, zero, suc, _-_}
 use mathlib.Core.Path.{_≡_, refl}
 use mathlib.Core.Bool.{cond}
 use mathlib.Core.List.{List, [], _++_}
-use Rattle.gray.specs.Answers.{Answer, given, refused}
-use Rattle.gray.specs.Radices.{digits}
-use Rattle.gray.specs.Words.{member, list, upward, downward, notches, through}
-use Rattle.gray.specs.Changes.{change, difference}
-use Rattle.gray.specs.Radices.{size, allFrom}
-use Rattle.gray.specs.Calls.{sizeCall}
+use Rattle.gray_theory.specs.Answers.{Answer, given, refused}
+use Rattle.gray_theory.specs.Radices.{digits}
+use Rattle.gray_theory.specs.Words.{member, list, upward, downward, notches, through}
+use Rattle.gray_theory.specs.Changes.{change, difference}
+use Rattle.gray_theory.specs.Radices.{size, allFrom}
+use Rattle.gray_theory.specs.Calls.{sizeCall}
 use Rattle.text.specs.Ascii.{ascii}
 use Rattle.text.specs.Decimals.{decimalIn, decimal, allDigits, valueFrom, isNumber}
 use Rattle.text.specs.Surveys.{Input, counts, unread, inputAs, lineAs, firstLine, hasNewline, fields, isCount, allCounts}

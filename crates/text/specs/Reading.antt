@@ -10,10 +10,10 @@ use borrow.Author.Tests.{eq-eqb, ne-eqb, lt-ltb, le-ltb, lt-leb, eqb-true}
 use lib.Dec.{eqb}
 use lib.ListN.{length, take, set, length-append, length-set, length-reverse}
 use lib.Seq.{take-all, take-suc-set, take-append-le, length-take-le}
-use Rattle.gray.specs.Answers.{refused}
-use Rattle.gray.specs.Bools.{impossible}
-use Rattle.gray.specs.Radices.{digits}
-use Rattle.gray.specs.Calls.{sizeCall}
+use Rattle.gray_theory.specs.Answers.{refused}
+use Rattle.gray_theory.specs.Bools.{impossible}
+use Rattle.gray_theory.specs.Radices.{digits}
+use Rattle.gray_theory.specs.Calls.{sizeCall}
 use Rattle.text.specs.Decimals.{value}
 use Rattle.text.specs.Surveys.{Input, counts, unread, newline, space, firstLine, hasNewline, joinedTo, fields, isCount, allCounts, lineAs, inputAs}
 use Rattle.text.specs.Readers.{freshReader, fieldOf, inPhase, byteKept, byteRead, countKept, fieldRead, lineRead, moreRead, readIn, read, foundIn, inputIn, readerInput, upTo49}

@@ -4,7 +4,7 @@ use mathlib.Core.Bool.{cond}
 use mathlib.Core.List.{List}
 use mathlib.Core.Path.{_≡_}
 use lib.ListN.{length}
-use Rattle.gray.specs.Places.{placed}
+use Rattle.gray_theory.specs.Places.{placed}
 use Rattle.text.specs.Decimals.{value}
 use Rattle.text.specs.Surveys.{isCount}
 use Rattle.text.specs.declared.Count.{Count}

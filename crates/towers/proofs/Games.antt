@@ -8,7 +8,7 @@ use mathlib.Core.Path.{_≡_, sym}
 use mathlib.Core.Bool.{Bool, true, false, cond, _||_}
 use borrow.Author.Tests.{eq-eqb, ne-eqb, lt-ltb, le-ltb}
 use lib.Dec.{eqb}
-use Rattle.gray.specs.Bools.{impossible}
+use Rattle.gray_theory.specs.Bools.{impossible}
 use Rattle.towers.specs.Choices.{sidePeg, onPair, smallest}
 use Rattle.towers.specs.Calls.{turnBy, pegAfter}
 use Rattle.towers.specs.Stages.{found}

@@ -8,17 +8,17 @@ use borrow.Author.Tests.{le-leb, lt-leb}
 use lib.Dec.{ltb, leb}
 use lib.ListN.{length, getD, take, length-reverse}
 use lib.Seq.{length-take-le, getD-take}
-use Rattle.gray.specs.Answers.{given, refused, refusing, isGiven}
-use Rattle.gray.specs.Radices.{digits}
-use Rattle.gray.specs.Words.{even}
-use Rattle.gray.specs.Arrays.{filled, digitArray}
-use Rattle.gray.specs.Directions.{allBelow, digitsInRange, wordInRange}
-use Rattle.gray.specs.Calls.{sizeCall}
-use Rattle.gray.specs.Engines.{refusedWith}
-use Rattle.gray.specs.DigitRanges.{allBelow-same, digits-tested}
-use Rattle.gray.specs.Filled.{take-filled, length-filled, digit-array}
-use Rattle.gray.specs.Refusals.{accepted, radices-accepted, survey-refused, survey-accepted, given-unless}
-use Rattle.gray.specs.Sizes.{radix-two}
+use Rattle.gray_theory.specs.Answers.{given, refused, refusing, isGiven}
+use Rattle.gray_theory.specs.Radices.{digits}
+use Rattle.gray_theory.specs.Words.{even}
+use Rattle.gray_theory.specs.Arrays.{filled, digitArray}
+use Rattle.gray_theory.specs.Directions.{allBelow, digitsInRange, wordInRange}
+use Rattle.gray_theory.specs.Calls.{sizeCall}
+use Rattle.gray_theory.specs.Engines.{refusedWith}
+use Rattle.gray_theory.specs.DigitRanges.{allBelow-same, digits-tested}
+use Rattle.gray_theory.specs.Filled.{take-filled, length-filled, digit-array}
+use Rattle.gray_theory.specs.Refusals.{accepted, radices-accepted, survey-refused, survey-accepted, given-unless}
+use Rattle.gray_theory.specs.Sizes.{radix-two}
 use Rattle.towers.specs.declared.Towers.{Towers}
 use Rattle.towers.specs.States.{allOdd, common, allEvenAndEqual, wrongCounts, openCheck, survey, turnInRange, pegsInRange, inRange}
 use Rattle.towers.specs.Calls.{freshWith, fresh, openWith, openOf}

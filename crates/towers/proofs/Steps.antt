@@ -10,11 +10,12 @@ use borrow.Author.Tests.{lt-ltb, le-ltb}
 use lib.Dec.{eqb}
 use lib.ListN.{length, getD, set, take}
 use lib.Seq.{length-take-le, getD-take, set-getD}
-use Rattle.gray.specs.Answers.{given}
-use Rattle.gray.specs.Words.{even}
-use Rattle.gray.specs.Directions.{wordMoved, downsMoved, digitInRange, advancedFrom}
-use Rattle.gray.specs.DigitRanges.{allBelow-each, digit-advanced}
-use Rattle.gray.specs.Engines.{ended, refusedWith}
+use Rattle.gray_theory.specs.Answers.{given}
+use Rattle.gray_theory.specs.Words.{even}
+use Rattle.gray_theory.specs.Directions.{wordMoved, downsMoved, digitInRange}
+use Rattle.gray.specs.Advances.{advancedFrom, digit-advanced}
+use Rattle.gray_theory.specs.DigitRanges.{allBelow-each}
+use Rattle.gray_theory.specs.Engines.{ended, refusedWith}
 use Rattle.gray.specs.declared.Directed.{Directed}
 use Rattle.gray.specs.declared.Stepping.the-variants.{Moved}
 use Rattle.towers.specs.declared.Towers.{Towers}

@@ -5,12 +5,13 @@ use mathlib.Core.List.{List, []}
 use mathlib.Core.Option.{Option, none, some}
 use lib.Dec.{eqb}
 use lib.ListN.{length, getD, set, replicate}
-use Rattle.gray.specs.Answers.{Answer, given, refused}
-use Rattle.gray.specs.Radices.{digits}
-use Rattle.gray.specs.Words.{even}
-use Rattle.gray.specs.Arrays.{filled}
-use Rattle.gray.specs.Directions.{wordMoved, downsMoved}
-use Rattle.gray.specs.Engines.{Event, moved, ended, Handed, refusedWith, openingAs, steppingAs}
+use Rattle.gray_theory.specs.Answers.{Answer, given, refused}
+use Rattle.gray_theory.specs.Radices.{digits}
+use Rattle.gray_theory.specs.Words.{even}
+use Rattle.gray_theory.specs.Arrays.{filled}
+use Rattle.gray_theory.specs.Directions.{wordMoved, downsMoved}
+use Rattle.gray_theory.specs.Engines.{Event, moved, ended, Handed, refusedWith}
+use Rattle.gray.specs.Enums.{openingAs, steppingAs}
 use Rattle.towers.specs.declared.Towers.{Towers}
 use Rattle.towers.specs.declared.Opened.{Opened}
 use Rattle.towers.specs.declared.Stepped.{Stepped}

@@ -8,14 +8,14 @@ use mathlib.Core.List.{List, [], _∷_}
 use borrow.Author.Tests.{eqb-true, eqb-false, not-true}
 use lib.Dec.{eqb}
 use lib.ListN.{length, getD, replicate, length-replicate}
-use Rattle.gray.specs.Answers.{isGiven}
-use Rattle.gray.specs.Words.{even}
-use Rattle.gray.specs.Arrays.{filled}
-use Rattle.gray.specs.DigitRanges.{allBelow-each}
-use Rattle.gray.specs.Members.{wordAt, length-wordAt}
-use Rattle.gray.specs.Sizes.{radix-two}
-use Rattle.gray.specs.WalkArrays.{wordArray, downArray, take-word-array, word-array-start, down-array-start, arrays-in-range}
-use Rattle.gray.specs.Filled.{take-filled, getD-filled, filled-replicate}
+use Rattle.gray_theory.specs.Answers.{isGiven}
+use Rattle.gray_theory.specs.Words.{even}
+use Rattle.gray_theory.specs.Arrays.{filled}
+use Rattle.gray_theory.specs.DigitRanges.{allBelow-each}
+use Rattle.gray_theory.specs.Members.{wordAt, length-wordAt}
+use Rattle.gray_theory.specs.Sizes.{radix-two}
+use Rattle.gray_theory.specs.WalkArrays.{wordArray, downArray, take-word-array, word-array-start, down-array-start, arrays-in-range}
+use Rattle.gray_theory.specs.Filled.{take-filled, getD-filled, filled-replicate}
 use Rattle.towers.specs.declared.Towers.{Towers}
 use Rattle.towers.specs.States.{allOdd, common, evenAndEqual, allEvenAndEqual, survey, setting, inRange}
 use Rattle.towers.specs.Calls.{fresh}

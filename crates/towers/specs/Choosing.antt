@@ -9,12 +9,12 @@ use mathlib.Core.Option.{none, some}
 use borrow.Author.Tests.{eq-eqb, ne-eqb, lt-ltb, le-ltb}
 use lib.Dec.{eqb}
 use lib.ListN.{length, getD}
-use Rattle.gray.specs.Words.{even}
-use Rattle.gray.specs.Members.{wordAt}
-use Rattle.gray.specs.Changes.{ruler}
-use Rattle.gray.specs.Sizes.{radix-two}
-use Rattle.gray.specs.Increments.{Increment.no-carry, Increment.carry, increment}
-use Rattle.gray.specs.Rulers.{ruler-no-carry, ruler-carry, ruler-pos}
+use Rattle.gray_theory.specs.Words.{even}
+use Rattle.gray_theory.specs.Members.{wordAt}
+use Rattle.gray_theory.specs.Changes.{ruler}
+use Rattle.gray_theory.specs.Sizes.{radix-two}
+use Rattle.gray_theory.specs.Increments.{Increment.no-carry, Increment.carry, increment}
+use Rattle.gray_theory.specs.Rulers.{ruler-no-carry, ruler-carry, ruler-pos}
 use Rattle.towers.specs.States.{allOdd, common, survey}
 use Rattle.towers.specs.Choices.{left, middle, right, sidePeg, pegOf, smallest, onPair, sweeping, isTop, elsewhere, chosenOnPair, chosenOnRing, chosen}
 use Rattle.towers.specs.Openings.{Openable}

@@ -4,10 +4,10 @@ use Prim.Native.Nat.{ℕ, suc, _-_, _≤_, _<_}
 use mathlib.Core.Path.{_≡_}
 use mathlib.Core.Bool.{Bool, true}
 use mathlib.Core.List.{List}
-use Rattle.gray.specs.Answers.{Answer, given}
-use Rattle.gray.specs.Radices.{size}
-use Rattle.gray.specs.Words.{member}
-use Rattle.gray.specs.Engines.{Event, moved, ended, after, answerOf, Names}
+use Rattle.gray_theory.specs.Answers.{Answer, given}
+use Rattle.gray_theory.specs.Radices.{size}
+use Rattle.gray_theory.specs.Words.{member}
+use Rattle.gray_theory.specs.Engines.{Event, moved, ended, after, answerOf, Names}
 use Rattle.towers.specs.declared.Towers.{Towers}
 use Rattle.towers.specs.States.{setting, inRange}
 use Rattle.towers.specs.Choices.{pegOf}

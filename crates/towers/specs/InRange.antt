@@ -8,11 +8,11 @@ use borrow.Author.Tests.{lt-ltb, ltb-true, le-leb, leb-true}
 use lib.Dec.{eqb, leb}
 use lib.ListN.{length, getD}
 use lib.Seq.{length-take-le}
-use Rattle.gray.specs.Answers.{isGiven}
-use Rattle.gray.specs.Bools.{impossible}
-use Rattle.gray.specs.Words.{even}
-use Rattle.gray.specs.Directions.{allBelow, digitsInRange}
-use Rattle.gray.specs.DigitRanges.{allBelow-each, each-allBelow}
+use Rattle.gray_theory.specs.Answers.{isGiven}
+use Rattle.gray_theory.specs.Bools.{impossible}
+use Rattle.gray_theory.specs.Words.{even}
+use Rattle.gray_theory.specs.Directions.{allBelow, digitsInRange}
+use Rattle.gray_theory.specs.DigitRanges.{allBelow-each, each-allBelow}
 use Rattle.towers.specs.declared.Towers.{Towers}
 use Rattle.towers.specs.States.{allOdd, common, evenAndEqual, allEvenAndEqual, openCheck, survey, turnInRange, pegsInRange, inRange}
 use Rattle.towers.specs.Openings.{Openable, openable}

@@ -10,10 +10,10 @@ use mathlib.Core.Option.{Option, none, some, Option·some-injective}
 use borrow.Author.Tests.{eq-eqb, ne-eqb, lt-ltb, le-ltb}
 use lib.ListN.{length, getD, set, length-set}
 use lib.Seq.{getD-set-same, getD-set-other, getD-take}
-use Rattle.gray.specs.Words.{even}
-use Rattle.gray.specs.Sizes.{radix-two}
-use Rattle.gray.specs.DigitRanges.{digits-move-in-range}
-use Rattle.gray.specs.Engines.{Event, Handed, refusedWith}
+use Rattle.gray_theory.specs.Words.{even}
+use Rattle.gray_theory.specs.Sizes.{radix-two}
+use Rattle.gray_theory.specs.DigitRanges.{digits-move-in-range}
+use Rattle.gray_theory.specs.Engines.{Event, Handed, refusedWith}
 use Rattle.towers.specs.declared.Towers.{Towers}
 use Rattle.towers.specs.States.{allOdd, common, survey, inRange}
 use Rattle.towers.specs.Choices.{pegOf, smallest, onPair, sweeping, isTop, elsewhere, chosenOnPair, chosenOnRing, chosen}

@@ -10,19 +10,19 @@ use mathlib.Core.Option.{Option, none, some}
 use borrow.Author.Tests.{lt-ltb, le-ltb}
 use lib.ListN.{length, getD, set, replicate}
 use lib.Seq.{getD-set-other}
-use Rattle.gray.specs.Answers.{given}
-use Rattle.gray.specs.Radices.{size}
-use Rattle.gray.specs.Changes.{Change, ruler, change}
-use Rattle.gray.specs.Increments.{Increment.no-carry, Increment.carry, increment}
-use Rattle.gray.specs.Rulers.{ruler-at-end}
-use Rattle.gray.specs.Sizes.{radix-two, allFrom-weaker}
-use Rattle.gray.specs.Arrays.{filled}
-use Rattle.gray.specs.Members.{wordAt}
-use Rattle.gray.specs.Filled.{getD-filled, set-filled}
-use Rattle.gray.specs.Directions.{movedFrom}
-use Rattle.gray.specs.Turns.{downsAt, Advances, walk-advances}
-use Rattle.gray.specs.WalkArrays.{word-array-moved, down-array-moved, change-named}
-use Rattle.gray.specs.Engines.{moved, ended}
+use Rattle.gray_theory.specs.Answers.{given}
+use Rattle.gray_theory.specs.Radices.{size}
+use Rattle.gray_theory.specs.Changes.{Change, ruler, change}
+use Rattle.gray_theory.specs.Increments.{Increment.no-carry, Increment.carry, increment}
+use Rattle.gray_theory.specs.Rulers.{ruler-at-end}
+use Rattle.gray_theory.specs.Sizes.{radix-two, allFrom-weaker}
+use Rattle.gray_theory.specs.Arrays.{filled}
+use Rattle.gray_theory.specs.Members.{wordAt}
+use Rattle.gray_theory.specs.Filled.{getD-filled, set-filled}
+use Rattle.gray_theory.specs.Directions.{movedFrom}
+use Rattle.gray_theory.specs.Turns.{downsAt, Advances, walk-advances}
+use Rattle.gray_theory.specs.WalkArrays.{word-array-moved, down-array-moved, change-named}
+use Rattle.gray_theory.specs.Engines.{moved, ended}
 use Rattle.towers.specs.declared.Towers.{Towers}
 use Rattle.towers.specs.States.{allOdd, common, survey}
 use Rattle.towers.specs.Choices.{sidePeg, chosen}

@@ -5,10 +5,10 @@ use mathlib.Core.Logic.{_↔_}
 use mathlib.Core.Bool.{true, _||_}
 use mathlib.Core.List.{List}
 use borrow.Author.Tests.{not-false}
-use Rattle.gray.specs.Answers.{Answer, given, refused, refusing, isGiven}
-use Rattle.gray.specs.Bools.{impossible}
-use Rattle.gray.specs.Radices.{digits}
-use Rattle.gray.specs.Refusals.{Limits, within-limits, limits-pass, passed}
+use Rattle.gray_theory.specs.Answers.{Answer, given, refused, refusing, isGiven}
+use Rattle.gray_theory.specs.Bools.{impossible}
+use Rattle.gray_theory.specs.Radices.{digits}
+use Rattle.gray_theory.specs.Refusals.{Limits, within-limits, limits-pass, passed}
 use Rattle.towers.specs.declared.Towers.{Towers}
 use Rattle.towers.specs.States.{allOdd, allEvenAndEqual, wrongCounts, openCheck}
 use Rattle.towers.specs.Calls.{fresh, openWith, openOf}

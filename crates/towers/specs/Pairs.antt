@@ -9,12 +9,12 @@ use mathlib.Core.List.{List, [], _∷_}
 use borrow.Author.Tests.{eq-eqb, ne-eqb, leb-true}
 use lib.Dec.{eqb, leb}
 use lib.ListN.{length, getD}
-use Rattle.gray.specs.Radices.{allFrom}
-use Rattle.gray.specs.Words.{even, reflect}
-use Rattle.gray.specs.Members.{wordAt}
-use Rattle.gray.specs.Changes.{ruler}
-use Rattle.gray.specs.Increments.{Increment.no-carry, Increment.carry, increment}
-use Rattle.gray.specs.Rulers.{ruler-carry, ruler-no-carry, ruler-pos}
+use Rattle.gray_theory.specs.Radices.{allFrom}
+use Rattle.gray_theory.specs.Words.{even, reflect}
+use Rattle.gray_theory.specs.Members.{wordAt}
+use Rattle.gray_theory.specs.Changes.{ruler}
+use Rattle.gray_theory.specs.Increments.{Increment.no-carry, Increment.carry, increment}
+use Rattle.gray_theory.specs.Rulers.{ruler-carry, ruler-no-carry, ruler-pos}
 use Rattle.towers.specs.Choices.{left, middle, right, sidePeg}
 use Rattle.towers.specs.Stacks.{Stacked}
 

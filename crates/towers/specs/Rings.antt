@@ -10,10 +10,10 @@ use mathlib.Core.List.{List, [], _∷_}
 use borrow.Author.Tests.{eq-eqb, ne-eqb}
 use lib.Dec.{eqb}
 use lib.ListN.{length, getD, set, replicate}
-use Rattle.gray.specs.Words.{even}
-use Rattle.gray.specs.Changes.{ruler}
-use Rattle.gray.specs.Increments.{Increment, Increment.no-carry, Increment.carry, increment}
-use Rattle.gray.specs.Rulers.{ruler-carry, ruler-no-carry, ruler-pos}
+use Rattle.gray_theory.specs.Words.{even}
+use Rattle.gray_theory.specs.Changes.{ruler}
+use Rattle.gray_theory.specs.Increments.{Increment, Increment.no-carry, Increment.carry, increment}
+use Rattle.gray_theory.specs.Rulers.{ruler-carry, ruler-no-carry, ruler-pos}
 use Rattle.towers.specs.Calls.{clockwise, anticlockwise, pegAfter}
 use Rattle.towers.specs.Stacks.{Stacked}
 

@@ -7,9 +7,9 @@ use mathlib.Core.Bool.{Bool, true, false, cond, _&&_, not, and-false}
 use mathlib.Core.Option.{Option, none, some}
 use borrow.Author.Tests.{eqb-true, eqb-false, ne-eqb, not-true, not-false}
 use lib.Dec.{eqb}
-use Rattle.gray.specs.Directions.{allBelow}
-use Rattle.gray.specs.DigitRanges.{each-allBelow}
-use Rattle.gray.specs.Bools.{impossible}
+use Rattle.gray_theory.specs.Directions.{allBelow}
+use Rattle.gray_theory.specs.DigitRanges.{each-allBelow}
+use Rattle.gray_theory.specs.Bools.{impossible}
 use Rattle.towers.specs.Choices.{orElse, smallest}
 
 pub smallest-none : (n : ℕ) (test : ℕ → Bool) → ((k : ℕ) → k < n → test k ≡ false) → smallest n test ≡ none

@@ -4,7 +4,7 @@ use Prim.Native.Nat.{ℕ, suc, _<_}
 use mathlib.Core.Path.{_≡_}
 use mathlib.Core.List.{List}
 use lib.ListN.{length}
-use Rattle.gray.specs.Changes.{ruler}
+use Rattle.gray_theory.specs.Changes.{ruler}
 
 -- with `peg q k` the peg of the disk at index k at rank q: the ruler function names the disk that moves from rank r on
 pub record Stacked (ms : List ℕ) (peg : ℕ → ℕ → ℕ) (r aside : ℕ) : Type 0 where

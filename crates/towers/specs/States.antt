@@ -5,10 +5,10 @@ use mathlib.Core.Bool.{Bool, cond, _&&_, _||_, not}
 use mathlib.Core.List.{List}
 use lib.Dec.{eqb, ltb, leb}
 use lib.ListN.{length, getD, take}
-use Rattle.gray.specs.Answers.{Answer, given, isGiven, refusing}
-use Rattle.gray.specs.Radices.{ofRadices}
-use Rattle.gray.specs.Words.{even}
-use Rattle.gray.specs.Directions.{allBelow, digitsInRange}
+use Rattle.gray_theory.specs.Answers.{Answer, given, isGiven, refusing}
+use Rattle.gray_theory.specs.Radices.{ofRadices}
+use Rattle.gray_theory.specs.Words.{even}
+use Rattle.gray_theory.specs.Directions.{allBelow, digitsInRange}
 use Rattle.towers.specs.declared.Towers.{Towers}
 
 -- ---- the survey

@@ -7,14 +7,14 @@ use mathlib.Core.Path.{_≡_, sym, ap, subst, _∙_}
 use mathlib.Core.Bool.{Bool, true}
 use mathlib.Core.List.{List}
 use lib.ListN.{length}
-use Rattle.gray.specs.Answers.{Answer, given, refused}
-use Rattle.gray.specs.Radices.{digits, size}
-use Rattle.gray.specs.Members.{member-is-wordAt}
-use Rattle.gray.specs.Changes.{change}
-use Rattle.gray.specs.Rulers.{change-is-ruler}
-use Rattle.gray.specs.Sizes.{size-pos, allFrom-weaker}
-use Rattle.gray.specs.Turns.{Advances, walk-advances}
-use Rattle.gray.specs.Engines.{Event, moved, ended, after, Names}
+use Rattle.gray_theory.specs.Answers.{Answer, given, refused}
+use Rattle.gray_theory.specs.Radices.{digits, size}
+use Rattle.gray_theory.specs.Members.{member-is-wordAt}
+use Rattle.gray_theory.specs.Changes.{change}
+use Rattle.gray_theory.specs.Rulers.{change-is-ruler}
+use Rattle.gray_theory.specs.Sizes.{size-pos, allFrom-weaker}
+use Rattle.gray_theory.specs.Turns.{Advances, walk-advances}
+use Rattle.gray_theory.specs.Engines.{Event, moved, ended, after, Names}
 use Rattle.towers.specs.declared.Towers.{Towers}
 use Rattle.towers.specs.States.{setting, inRange}
 use Rattle.towers.specs.Choices.{pegOf}

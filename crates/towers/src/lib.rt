@@ -8,7 +8,7 @@ ghost use mathlib.Core.Bool.{true, cond, _||_, not};
 ghost use Prim.Native.Nat.{_≤_, _<_};
 ghost use lib.Dec.{eqb, leb};
 ghost use lib.ListN.{length, getD};
-ghost use Rattle.gray.specs.Directions.{allBelow};
+ghost use Rattle.gray_theory.specs.Directions.{allBelow};
 ghost use Rattle.towers.specs.States.{allOdd, allEvenAndEqual, inRange};
 ghost use Rattle.towers.specs.Choices.{sidePeg, onPair, smallest, chosen};
 ghost use Rattle.towers.specs.Calls.{freshWith, closedTowers, openedAs, openOf, steppedAs, turnBy, pegAfter, moveOf, stepOf};

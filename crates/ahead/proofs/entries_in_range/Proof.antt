@@ -5,8 +5,8 @@ use mathlib.Core.Bool.{_&&_}
 use native.Mathlib.Omega.{arith}
 use lib.Dec.{leb}
 use lib.ListN.{getD}
-use Rattle.gray.specs.Directions.{allBelow}
-use Rattle.gray.specs.DigitRanges.{tested-none, tested-more, tested-all}
+use Rattle.gray_theory.specs.Directions.{allBelow}
+use Rattle.gray_theory.specs.DigitRanges.{tested-none, tested-more, tested-all}
 use Rattle.ahead.proofs.entries_in_range.Statement.{statement}
 use Rattle.ahead.proofs.entries_in_range.Tie as tie
 

@@ -6,7 +6,7 @@ use native.Mathlib.Nat.{add-comm}
 use native.Mathlib.Omega.{arith}
 use lib.ListN.{length, getD, take, drop, replicate, length-drop}
 use lib.Seq.{getD-drop}
-use Rattle.gray.specs.Filled.{fill-more, fill-all}
+use Rattle.gray_theory.specs.Filled.{fill-more, fill-all}
 use Rattle.ahead.proofs.shifted.Statement.{statement}
 use Rattle.ahead.proofs.shifted.Tie as tie
 

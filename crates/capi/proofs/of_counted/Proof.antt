@@ -1,6 +1,6 @@
 -- `capi::of_counted` meets its contract: a refusal is encoded by its number. Assumes nothing.
 use mathlib.Core.Path.{sym, ap, _∙_}
-use Rattle.gray.specs.Calls.{countedAs}
+use Rattle.gray.specs.Enums.{countedAs}
 use Rattle.capi.specs.Encoding.{encoded}
 use borrow.Author.Needs.{needs}
 use Rattle.capi.proofs.of_counted.Statement.{statement}

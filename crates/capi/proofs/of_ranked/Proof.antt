@@ -1,6 +1,6 @@
 -- `capi::of_ranked` meets its contract: a refusal is encoded by its number. Assumes nothing.
 use mathlib.Core.Path.{sym, ap, _∙_}
-use Rattle.gray.specs.Calls.{rankedAs}
+use Rattle.gray.specs.Enums.{rankedAs}
 use Rattle.capi.specs.Encoding.{encoded}
 use borrow.Author.Needs.{needs}
 use Rattle.capi.proofs.of_ranked.Statement.{statement}

@@ -1,6 +1,6 @@
 -- `capi::of_written` meets its contract: a refusal is encoded by its number. Assumes nothing.
 use mathlib.Core.Path.{sym, ap, _∙_}
-use Rattle.gray.specs.Calls.{writtenAs}
+use Rattle.gray.specs.Enums.{writtenAs}
 use Rattle.capi.specs.Encoding.{encoded}
 use borrow.Author.Needs.{needs}
 use Rattle.capi.proofs.of_written.Statement.{statement}

@@ -5,8 +5,9 @@ use mathlib.Core.Logic.{⊎-elim}
 use native.Mathlib.Omega.{arith}
 use borrow.Author.Needs.{needs}
 use borrow.Author.Tests.{not-true, not-false}
-use Rattle.gray.specs.Directions.{movedFrom, digitInRange}
-use Rattle.gray.specs.DigitRanges.{digit-says, digit-stays}
+use Rattle.gray_theory.specs.Directions.{movedFrom, digitInRange}
+use Rattle.gray_theory.specs.DigitRanges.{digit-says}
+use Rattle.gray.specs.Advances.{digit-stays}
 use Rattle.gray.proofs.Laws.{room-below, room-above, advance-made}
 use Rattle.gray.proofs.advanced.Statement.{statement}
 use Rattle.gray.proofs.advanced.Tie as tie

@@ -3,8 +3,8 @@ use Prim.Native.Nat.{_≤_, _-_}
 use mathlib.Core.Path.{_≡_, refl}
 use native.Mathlib.Omega.{arith}
 use lib.ListN.{length, take}
-use Rattle.gray.specs.Radices.{digits}
-use Rattle.gray.specs.Words.{isWord}
+use Rattle.gray_theory.specs.Radices.{digits}
+use Rattle.gray_theory.specs.Words.{isWord}
 use Rattle.gray.proofs.Laws.{below-more, below-all}
 use Rattle.gray.proofs.all_below.Statement.{statement}
 use Rattle.gray.proofs.all_below.Tie as tie

@@ -3,7 +3,7 @@ use Prim.Native.Nat.{_≤_, _-_}
 use mathlib.Core.Path.{_≡_, refl}
 use native.Mathlib.Omega.{arith}
 use lib.ListN.{length, take}
-use Rattle.gray.specs.Radices.{digits, allFrom}
+use Rattle.gray_theory.specs.Radices.{digits, allFrom}
 use Rattle.gray.proofs.Laws.{tested-more, tested-all}
 use Rattle.gray.proofs.all_two.Statement.{statement}
 use Rattle.gray.proofs.all_two.Tie as tie

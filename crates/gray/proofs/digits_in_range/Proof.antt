@@ -4,8 +4,8 @@ use mathlib.Core.Path.{_≡_}
 use native.Mathlib.Omega.{arith}
 use borrow.Author.Needs.{needs}
 use lib.ListN.{length}
-use Rattle.gray.specs.Directions.{digitsInRange}
-use Rattle.gray.specs.DigitRanges.{tested-none, tested-more, tested-all}
+use Rattle.gray_theory.specs.Directions.{digitsInRange}
+use Rattle.gray_theory.specs.DigitRanges.{tested-none, tested-more, tested-all}
 use Rattle.gray.proofs.Laws.{lengths-differ, lengths-same, word-tested}
 use Rattle.gray.proofs.digits_in_range.Statement.{statement}
 use Rattle.gray.proofs.digits_in_range.Tie as tie

@@ -5,8 +5,8 @@ use mathlib.Core.Path.{_≡_, refl, sym, _∙_}
 use native.Mathlib.Omega.{arith}
 use borrow.Author.Needs.{needs}
 use lib.ListN.{length, take}
-use Rattle.gray.specs.Radices.{digits, size}
-use Rattle.gray.specs.Digits.{radix-from}
+use Rattle.gray_theory.specs.Radices.{digits, size}
+use Rattle.gray_theory.specs.Digits.{radix-from}
 use Rattle.gray.proofs.Laws.{product-more, product-over, size-all}
 use Rattle.gray.proofs.product_of.Statement.{statement}
 use Rattle.gray.proofs.product_of.Tie as tie

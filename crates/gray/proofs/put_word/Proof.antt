@@ -8,12 +8,12 @@ use native.Mathlib.Omega.{arith}
 use borrow.Author.Needs.{needs}
 use lib.ListN.{length, take, drop, length-set}
 use lib.Seq.{take-length}
-use Rattle.gray.specs.Radices.{digits, bytes}
-use Rattle.gray.specs.Words.{reflect}
-use Rattle.gray.specs.Members.{wordAt}
+use Rattle.gray_theory.specs.Radices.{digits, bytes}
+use Rattle.gray_theory.specs.Words.{reflect}
+use Rattle.gray_theory.specs.Members.{wordAt}
 use Rattle.gray.specs.Stages.{putWord}
-use Rattle.gray.specs.Ranks.{reflect-below}
-use Rattle.gray.specs.Digits.{radix-from}
+use Rattle.gray_theory.specs.Ranks.{reflect-below}
+use Rattle.gray_theory.specs.Digits.{radix-from}
 use Rattle.gray.proofs.Laws.{put-more, put-all}
 use Rattle.gray.proofs.put_word.Statement.{statement}
 use Rattle.gray.proofs.put_word.Tie as tie

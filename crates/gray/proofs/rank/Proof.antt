@@ -1,9 +1,11 @@
 -- `gray::rank` meets its contract: a stage that refuses passes its number on, and what passes every stage has its rank. Assumes
 -- nothing.
 use mathlib.Core.Path.{_≡_, sym, ap, _∙_}
-use Rattle.gray.specs.Answers.{given}
-use Rattle.gray.specs.Calls.{countedAs, sizeCall, rankCall}
-use Rattle.gray.specs.Refusals.{accepted, passed-on}
+use Rattle.gray_theory.specs.Answers.{given}
+use Rattle.gray_theory.specs.Calls.{sizeCall, rankCall}
+use Rattle.gray.specs.Enums.{countedAs}
+use Rattle.gray_theory.specs.Refusals.{accepted}
+use Rattle.gray.specs.Passing.{passed-on}
 use Rattle.gray.specs.Stages.{Rankable}
 use Rattle.gray.proofs.Laws.{fine-says, word-refused, rank-given}
 use borrow.Author.Needs.{needs}

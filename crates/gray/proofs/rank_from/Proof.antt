@@ -4,9 +4,9 @@ use mathlib.Core.Path.{_≡_, refl}
 use native.Mathlib.Omega.{arith}
 use borrow.Author.Needs.{needs}
 use lib.ListN.{length, take}
-use Rattle.gray.specs.Radices.{digits}
-use Rattle.gray.specs.Words.{rank}
-use Rattle.gray.specs.Digits.{word-long, digit-below}
+use Rattle.gray_theory.specs.Radices.{digits}
+use Rattle.gray_theory.specs.Words.{rank}
+use Rattle.gray_theory.specs.Digits.{word-long, digit-below}
 use Rattle.gray.proofs.Laws.{rank-more, rank-small, rank-all}
 use Rattle.gray.proofs.rank_from.Statement.{statement}
 use Rattle.gray.proofs.rank_from.Tie as tie

@@ -4,8 +4,8 @@ use mathlib.Core.Path.{_≡_, refl}
 use mathlib.Core.List.{_++_}
 use native.Mathlib.Omega.{arith}
 use lib.ListN.{length, take, replicate, length-reverse}
-use Rattle.gray.specs.Radices.{digits}
-use Rattle.gray.specs.Filled.{fill-more}
+use Rattle.gray_theory.specs.Radices.{digits}
+use Rattle.gray_theory.specs.Filled.{fill-more}
 use Rattle.gray.proofs.Laws.{goes-on, ends, fill-ended, digit-at}
 use Rattle.gray.proofs.reversed.Statement.{statement}
 use Rattle.gray.proofs.reversed.Tie as tie

@@ -1,11 +1,13 @@
 -- `gray::word` meets its contract: a stage that refuses leaves the output as it came, and what passes every stage has its word's
 -- bytes there. Assumes nothing.
 use mathlib.Core.Path.{_≡_, sym, ap, _∙_}
-use Rattle.gray.specs.Answers.{given}
-use Rattle.gray.specs.Radices.{digits, bytes}
-use Rattle.gray.specs.Members.{wordAt}
-use Rattle.gray.specs.Calls.{countedAs, sizeCall, wordCall}
-use Rattle.gray.specs.Refusals.{accepted, passed-on, wrote-nothing, wrote-bytes}
+use Rattle.gray_theory.specs.Answers.{given}
+use Rattle.gray_theory.specs.Radices.{digits, bytes}
+use Rattle.gray_theory.specs.Members.{wordAt}
+use Rattle.gray_theory.specs.Calls.{sizeCall, wordCall}
+use Rattle.gray.specs.Enums.{countedAs}
+use Rattle.gray_theory.specs.Refusals.{accepted, wrote-nothing, wrote-bytes}
+use Rattle.gray.specs.Passing.{passed-on}
 use Rattle.gray.proofs.Laws.{rank-refused, room-refused, word-given, word-long-as}
 use borrow.Author.Needs.{needs}
 use Rattle.gray.proofs.word.Statement.{statement}

@@ -5,9 +5,11 @@ use native.Mathlib.Nat.{le-div-iff-mul-le, lt-of-le-of-lt}
 use native.Mathlib.Omega.{arith}
 use mathlib.Core.Path.{_≡_, refl, sym, ap, _∙_}
 use borrow.Author.Tests.{leb-true, leb-false, not-true, not-false}
-use Rattle.gray.specs.Answers.{given}
-use Rattle.gray.specs.Calls.{countedAs, sizeCall}
-use Rattle.gray.specs.Refusals.{accepted, passed-on, wrote-nothing}
+use Rattle.gray_theory.specs.Answers.{given}
+use Rattle.gray_theory.specs.Calls.{sizeCall}
+use Rattle.gray.specs.Enums.{countedAs}
+use Rattle.gray_theory.specs.Refusals.{accepted, wrote-nothing}
+use Rattle.gray.specs.Passing.{passed-on}
 use Rattle.lister.specs.Calls.{listCall}
 use Rattle.lister.proofs.Runs.{run-refused, room-refused, table-asked, list-reached, run-written, none-written}
 use borrow.Author.Needs.{needs}

@@ -4,7 +4,7 @@ use native.Mathlib.Nat.{add-zero}
 use native.Mathlib.Omega.{arith}
 use borrow.Author.Needs.{needs}
 use lib.ListN.{take}
-use Rattle.gray.specs.Places.{placed, placed-none}
+use Rattle.gray_theory.specs.Places.{placed, placed-none}
 use Rattle.lister.proofs.put.Statement.{statement}
 use Rattle.lister.proofs.put.Tie as tie
 

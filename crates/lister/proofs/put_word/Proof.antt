@@ -6,7 +6,7 @@ use native.Mathlib.Omega.{arith}
 use borrow.Author.Needs.{needs}
 use lib.ListN.{length, take, set, length-set, length-append}
 use lib.Seq.{append-snoc, length-take-le}
-use Rattle.gray.specs.Places.{placed, placed-set}
+use Rattle.gray_theory.specs.Places.{placed, placed-set}
 use Rattle.lister.proofs.put_word.Statement.{statement}
 use Rattle.lister.proofs.put_word.Tie as tie
 

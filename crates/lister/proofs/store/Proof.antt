@@ -6,7 +6,7 @@ use native.Mathlib.Numerals.{add-one}
 use native.Mathlib.Omega.{arith}
 use lib.ListN.{length, getD, take, set, length-set}
 use lib.Seq.{take-suc, length-take-le}
-use Rattle.gray.specs.Places.{placed, placed-none, placed-set}
+use Rattle.gray_theory.specs.Places.{placed, placed-none, placed-set}
 use Rattle.lister.proofs.store.Statement.{statement}
 use Rattle.lister.proofs.store.Tie as tie
 

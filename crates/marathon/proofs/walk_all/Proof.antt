@@ -2,8 +2,8 @@
 use Prim.Native.Nat.{_≤_}
 use mathlib.Core.Path.{sym, ap, _∙_}
 use lib.ListN.{length}
-use Rattle.gray.specs.Calls.{countedAs}
-use Rattle.gray.specs.Refusals.{accepted}
+use Rattle.gray.specs.Enums.{countedAs}
+use Rattle.gray_theory.specs.Refusals.{accepted}
 use borrow.Author.Needs.{needs}
 use Rattle.marathon.proofs.walk_all.Statement.{statement}
 use Rattle.marathon.proofs.walk_all.Tie as tie

@@ -4,7 +4,8 @@ use native.Mathlib.Omega.{arith}
 use mathlib.Core.Path.{_≡_, sym, ap, _∙_}
 use mathlib.Core.List.{List}
 use lib.ListN.{length, length-set}
-use Rattle.gray.specs.Engines.{Handed, Event, steppingAs}
+use Rattle.gray_theory.specs.Engines.{Handed, Event}
+use Rattle.gray.specs.Enums.{steppingAs}
 use Rattle.towers.specs.Calls.{steppedAs, stepOf}
 use Rattle.runs_theory.specs.Runs.{moveThen}
 use Rattle.runs.proofs.Outputs.{Going, begun, again, full, stopped, no-move, same-length as as-long}

@@ -1,8 +1,9 @@
 -- `runs::walk_moves` meets its contract: an opening that is refused passes its number on, and one that is accepted is stepped. Assumes
 -- nothing.
 use mathlib.Core.Path.{_≡_, sym, ap, _∙_}
-use Rattle.gray.specs.Answers.{refused, numberOf}
-use Rattle.gray.specs.Engines.{Handed, openingAs}
+use Rattle.gray_theory.specs.Answers.{refused, numberOf}
+use Rattle.gray_theory.specs.Engines.{Handed}
+use Rattle.gray.specs.Enums.{openingAs}
 use Rattle.ahead.specs.declared.Walk.{Walk}
 use Rattle.ahead.specs.Calls.{closedWalk, openedAs, openOf, stepOf}
 use Rattle.runs_theory.specs.Runs.{walkMovesCall}

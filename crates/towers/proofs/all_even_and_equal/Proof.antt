@@ -3,8 +3,8 @@ use Prim.Native.Nat.{_-_, _≤_}
 use mathlib.Core.Path.{_≡_, refl}
 use native.Mathlib.Omega.{arith}
 use lib.ListN.{length, getD}
-use Rattle.gray.specs.Directions.{allBelow}
-use Rattle.gray.specs.DigitRanges.{tested-none, tested-more, tested-all}
+use Rattle.gray_theory.specs.Directions.{allBelow}
+use Rattle.gray_theory.specs.DigitRanges.{tested-none, tested-more, tested-all}
 use Rattle.towers.specs.States.{common, evenAndEqual, allEvenAndEqual}
 use Rattle.towers.proofs.all_even_and_equal.Statement.{statement}
 use Rattle.towers.proofs.all_even_and_equal.Tie as tie

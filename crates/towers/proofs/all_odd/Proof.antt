@@ -4,9 +4,9 @@ use mathlib.Core.Path.{_≡_, refl}
 use mathlib.Core.Bool.{not}
 use native.Mathlib.Omega.{arith}
 use lib.ListN.{length, getD}
-use Rattle.gray.specs.Words.{even}
-use Rattle.gray.specs.Directions.{allBelow}
-use Rattle.gray.specs.DigitRanges.{tested-none, tested-more, tested-all}
+use Rattle.gray_theory.specs.Words.{even}
+use Rattle.gray_theory.specs.Directions.{allBelow}
+use Rattle.gray_theory.specs.DigitRanges.{tested-none, tested-more, tested-all}
 use Rattle.towers.specs.States.{allOdd}
 use Rattle.towers.proofs.all_odd.Statement.{statement}
 use Rattle.towers.proofs.all_odd.Tie as tie

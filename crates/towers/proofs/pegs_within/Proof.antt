@@ -4,8 +4,8 @@ use mathlib.Core.Path.{_≡_, refl}
 use native.Mathlib.Omega.{arith}
 use lib.Dec.{leb}
 use lib.ListN.{length, getD}
-use Rattle.gray.specs.Directions.{allBelow}
-use Rattle.gray.specs.DigitRanges.{tested-none, tested-more, tested-all}
+use Rattle.gray_theory.specs.Directions.{allBelow}
+use Rattle.gray_theory.specs.DigitRanges.{tested-none, tested-more, tested-all}
 use Rattle.towers.proofs.pegs_within.Statement.{statement}
 use Rattle.towers.proofs.pegs_within.Tie as tie
 

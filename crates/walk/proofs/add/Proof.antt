@@ -5,7 +5,7 @@ use native.Mathlib.Omega.{arith}
 use lib.ListN.{length, take, drop, length-take, length-drop}
 use lib.Seq.{length-take-le}
 use Rattle.io.proofs.Counting.{counts}
-use Rattle.gray.specs.Calls.{writtenAs}
+use Rattle.gray.specs.Enums.{writtenAs}
 use Rattle.text.specs.Fits.{line-fits}
 use borrow.Author.Needs.{needs}
 use Rattle.walk.proofs.add.Statement.{statement}

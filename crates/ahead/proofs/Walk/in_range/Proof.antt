@@ -6,15 +6,16 @@ use native.Mathlib.Omega.{arith}
 use borrow.Author.Needs.{needs}
 use lib.ListN.{length, take}
 use lib.Seq.{length-take-le}
-use Rattle.gray.specs.Answers.{given}
-use Rattle.gray.specs.Calls.{countedAs, sizeCall}
-use Rattle.gray.specs.Directions.{digitsInRange}
-use Rattle.gray.specs.DigitRanges.{digits-tested}
-use Rattle.gray.specs.Refusals.{survey-refused, survey-size}
+use Rattle.gray_theory.specs.Answers.{given}
+use Rattle.gray_theory.specs.Calls.{sizeCall}
+use Rattle.gray.specs.Enums.{countedAs}
+use Rattle.gray_theory.specs.Directions.{digitsInRange}
+use Rattle.gray_theory.specs.DigitRanges.{digits-tested}
+use Rattle.gray_theory.specs.Refusals.{survey-refused, survey-size}
 use Rattle.ahead.specs.States.{survey}
 use Rattle.ahead.specs.Stages.{Radices}
 use Rattle.ahead.specs.InRange.{Arrays}
-use Rattle.gray.specs.Capacities.{right-capacity}
+use Rattle.gray_theory.specs.Capacities.{right-capacity}
 use Rattle.ahead.proofs.Ranges.{accepted-radices, digits-over, capacity-tested, not-open, state-tested}
 use Rattle.ahead.proofs.Walk.in_range.Statement.{statement}
 use Rattle.ahead.proofs.Walk.in_range.Tie as tie

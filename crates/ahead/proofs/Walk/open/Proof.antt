@@ -2,10 +2,12 @@
 -- nothing.
 use mathlib.Core.Path.{_≡_, sym, ap, _∙_}
 use native.Mathlib.Omega.{arith}
-use Rattle.gray.specs.Answers.{given}
-use Rattle.gray.specs.Calls.{countedAs, sizeCall}
-use Rattle.gray.specs.Refusals.{accepted, passed-on}
-use Rattle.gray.specs.Capacities.{right-capacity}
+use Rattle.gray_theory.specs.Answers.{given}
+use Rattle.gray_theory.specs.Calls.{sizeCall}
+use Rattle.gray.specs.Enums.{countedAs}
+use Rattle.gray_theory.specs.Refusals.{accepted}
+use Rattle.gray.specs.Passing.{passed-on}
+use Rattle.gray_theory.specs.Capacities.{right-capacity}
 use Rattle.ahead.proofs.Ranges.{opening-refused, capacity-refused, opening-given}
 use borrow.Author.Needs.{needs}
 use Rattle.ahead.proofs.Walk.open.Statement.{statement}

@@ -6,7 +6,7 @@ use mathlib.Core.Bool.{cond, not}
 use native.Mathlib.Omega.{arith}
 use borrow.Author.Needs.{needs}
 use lib.ListN.{getD}
-use Rattle.gray.specs.Words.{even}
+use Rattle.gray_theory.specs.Words.{even}
 use Rattle.towers.specs.Calls.{pegAfter}
 use Rattle.towers.specs.InRange.{Arrays}
 use Rattle.towers.proofs.Steps.{first-two, index-fits, turn-below, peg-within, disk-moved}

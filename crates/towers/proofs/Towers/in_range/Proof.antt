@@ -8,10 +8,11 @@ use borrow.Author.Needs.{needs}
 use borrow.Author.Tests.{not-true, not-false}
 use lib.ListN.{getD, take}
 use lib.Seq.{length-take-le}
-use Rattle.gray.specs.Answers.{given, isGiven}
-use Rattle.gray.specs.Words.{even}
-use Rattle.gray.specs.Calls.{countedAs, sizeCall}
-use Rattle.gray.specs.Refusals.{accepted}
+use Rattle.gray_theory.specs.Answers.{given, isGiven}
+use Rattle.gray_theory.specs.Words.{even}
+use Rattle.gray_theory.specs.Calls.{sizeCall}
+use Rattle.gray.specs.Enums.{countedAs}
+use Rattle.gray_theory.specs.Refusals.{accepted}
 use Rattle.towers.specs.States.{openCheck, survey}
 use Rattle.towers.specs.InRange.{Arrays}
 use Rattle.towers.proofs.Ranges.{pegsPass, digits-over, radices-refused, not-open, counts-open, state-tested}

@@ -4,9 +4,11 @@ use mathlib.Core.Path.{_≡_, sym, ap, _∙_}
 use native.Mathlib.Omega.{arith}
 use borrow.Author.Needs.{needs}
 use lib.Seq.{length-take-le}
-use Rattle.gray.specs.Answers.{given}
-use Rattle.gray.specs.Calls.{countedAs, sizeCall}
-use Rattle.gray.specs.Refusals.{accepted, passed-on}
+use Rattle.gray_theory.specs.Answers.{given}
+use Rattle.gray_theory.specs.Calls.{sizeCall}
+use Rattle.gray.specs.Enums.{countedAs}
+use Rattle.gray_theory.specs.Refusals.{accepted}
+use Rattle.gray.specs.Passing.{passed-on}
 use Rattle.towers.proofs.Ranges.{opening-refused, array-room, array-some, counts-refused, opening-given}
 use Rattle.towers.proofs.Towers.open.Statement.{statement}
 use Rattle.towers.proofs.Towers.open.Tie as tie

@@ -10,10 +10,10 @@ use borrow.Author.Tests.{leb-true, ltb-true}
 use lib.Dec.{leb, ltb}
 use lib.ListN.{length, getD, take, drop, take-append-drop, length-drop, length-reverse}
 use lib.Seq.{take-suc}
-use Rattle.gray.specs.Radices.{digits, size, allFrom}
-use Rattle.gray.specs.Words.{isWord}
-use Rattle.gray.specs.Bools.{impossible}
-use Rattle.gray.specs.Sizes.{size-pos, allFrom-append, size-append}
+use Rattle.gray_theory.specs.Radices.{digits, size, allFrom}
+use Rattle.gray_theory.specs.Words.{isWord}
+use Rattle.gray_theory.specs.Bools.{impossible}
+use Rattle.gray_theory.specs.Sizes.{size-pos, allFrom-append, size-append}
 
 -- ---- the digits of a part
 -- one byte more is one faster digit

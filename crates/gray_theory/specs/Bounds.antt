@@ -10,11 +10,11 @@ use mathlib.Core.List.{List, [], _∷_}
 use borrow.Author.Tests.{leb-true}
 use lib.Dec.{leb}
 use lib.ListN.{length}
-use Rattle.gray.specs.Radices.{allFrom}
-use Rattle.gray.specs.Changes.{ruler}
-use Rattle.gray.specs.Costs.{wholeParts, cost}
-use Rattle.gray.specs.Rulers.{ruler-carry, ruler-no-carry}
-use Rattle.gray.specs.Increments.{Increment, Increment.no-carry, Increment.carry, increment}
+use Rattle.gray_theory.specs.Radices.{allFrom}
+use Rattle.gray_theory.specs.Changes.{ruler}
+use Rattle.gray_theory.specs.Costs.{wholeParts, cost}
+use Rattle.gray_theory.specs.Rulers.{ruler-carry, ruler-no-carry}
+use Rattle.gray_theory.specs.Increments.{Increment, Increment.no-carry, Increment.carry, increment}
 
 -- ---- the nested form
 -- the cost with one division after another

@@ -3,8 +3,8 @@ use mathlib.Core.Path.{_≡_, refl}
 use mathlib.Core.Bool.{Bool, true, false}
 use mathlib.Core.List.{List}
 use Prim.Native.Nat.{ℕ}
-use Rattle.gray.specs.Answers.{Answer, refused}
-use Rattle.gray.specs.Radices.{wrongCount, wrongRadix, tooMany, ofRadices}
+use Rattle.gray_theory.specs.Answers.{Answer, refused}
+use Rattle.gray_theory.specs.Radices.{wrongCount, wrongRadix, tooMany, ofRadices}
 
 -- what is wrong with radices, if anything: a fault of document 01, and that no lower one applies
 pub data Fault (ms : List ℕ) : Type 0 where

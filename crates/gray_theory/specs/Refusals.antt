@@ -8,14 +8,12 @@ use mathlib.Core.List.{List, _++_}
 use borrow.Author.Tests.{eqb-false, ltb-false, not-false, ne-eqb, le-ltb}
 use lib.Dec.{eqb, ltb}
 use lib.ListN.{length, drop, length-reverse}
-use Rattle.gray.specs.Answers.{Answer, given, refused, refusing, numberOf, isGiven, byteCount, outputAfter, Wrote}
-use Rattle.gray.specs.Radices.{digits, size, allFrom, wrongCount, wrongRadix, tooMany, ofRadices}
-use Rattle.gray.specs.Calls.{countedAs, sizeCall}
-use Rattle.gray.specs.declared.Counted.{Counted}
-use Rattle.gray.specs.declared.Counted.the-variants.{Refused}
-use Rattle.gray.specs.Bools.{impossible, neither}
-use Rattle.gray.specs.Reversals.{allFrom-reverse, size-reverse, ofRadices-reverse}
-use Rattle.gray.specs.Faults.{Fault, Fault.count, Fault.radix, Fault.many, Fault.none, fault, decided, lowest-fault-is-given}
+use Rattle.gray_theory.specs.Answers.{Answer, given, refused, refusing, isGiven, byteCount, outputAfter, Wrote}
+use Rattle.gray_theory.specs.Radices.{digits, size, allFrom, wrongCount, wrongRadix, tooMany, ofRadices}
+use Rattle.gray_theory.specs.Calls.{sizeCall}
+use Rattle.gray_theory.specs.Bools.{impossible, neither}
+use Rattle.gray_theory.specs.Reversals.{allFrom-reverse, size-reverse, ofRadices-reverse}
+use Rattle.gray_theory.specs.Faults.{Fault, Fault.count, Fault.radix, Fault.many, Fault.none, fault, decided, lowest-fault-is-given}
 
 -- ---- radices that are refused, and radices that are accepted
 pub given-same : {A : Type 0} (a b : A) → given a ≡ given b → a ≡ b
@@ -128,16 +126,6 @@ unfolding sizeCall
 radices-passed l rest x e =
     let p = faultless (digits l) rest x e in
     (rw (p .no-count, p .no-radix, p .no-many), p .value)
-
--- a caller of `size` that is refused passes the number on
-pub passed-on : {A : Type 0} (l : List ℕ) (rest : Answer A) (o : Counted) (x number : ℕ)
-    → countedAs o ≡ sizeCall l
-    → o ≡ Refused x
-    → number ≡ numberOf (countedAs o)
-    → refused number ≡ ofRadices (digits l) rest
-passed-on l rest o x number e f g =
-    let same : number ≡ x = g ∙ ap (λ c. numberOf (countedAs c)) f in
-    ap refused same ∙ sym (radices-refused l x rest (sym e ∙ ap countedAs f))
 
 -- ---- a survey that an engine's state holds: radices with digit 1 first, which the engine tests by the same call
 module _ (ms : List ℕ) where

@@ -8,11 +8,11 @@ use mathlib.Core.List.{List, [], _∷_}
 use borrow.Author.Tests.{ltb-true, lt-ltb}
 use lib.Arith.{digits-lt, digits-div, digits-mod}
 use lib.Dec.{ltb}
-use Rattle.gray.specs.Radices.{size}
-use Rattle.gray.specs.Words.{even, member, isWord, reflect, rank}
-use Rattle.gray.specs.Members.{wordAt, member-is-wordAt}
-use Rattle.gray.specs.Sizes.{quotient-below, first-pos}
-use Rattle.gray.specs.Bools.{impossible}
+use Rattle.gray_theory.specs.Radices.{size}
+use Rattle.gray_theory.specs.Words.{even, member, isWord, reflect, rank}
+use Rattle.gray_theory.specs.Members.{wordAt, member-is-wordAt}
+use Rattle.gray_theory.specs.Sizes.{quotient-below, first-pos}
+use Rattle.gray_theory.specs.Bools.{impossible}
 
 -- ---- one digit: to reflect is to keep it below its radix, and twice is to leave it
 cond-below : (m a : ℕ) (b : Bool) → a < m → cond b a (m - 1 - a) < m

@@ -11,12 +11,12 @@ use borrow.Author.Tests.{eq-eqb, ne-eqb, lt-ltb, le-ltb, leb-true}
 use lib.Arith.{mod-mul}
 use lib.Dec.{leb}
 use lib.ListN.{length, take, getD}
-use Rattle.gray.specs.Radices.{size, allFrom}
-use Rattle.gray.specs.Words.{even, member, reflect}
-use Rattle.gray.specs.Changes.{later, difference, change, Moves, Moves.up, Moves.down, Moves.next, ruler, descends, OneApart}
-use Rattle.gray.specs.Members.{wordAt, member-is-wordAt, length-wordAt}
-use Rattle.gray.specs.Sizes.{quotient-below, first-pos, size-pos, allFrom-take}
-use Rattle.gray.specs.Increments.{Increment, Increment.no-carry, Increment.carry, increment, even-suc}
+use Rattle.gray_theory.specs.Radices.{size, allFrom}
+use Rattle.gray_theory.specs.Words.{even, member, reflect}
+use Rattle.gray_theory.specs.Changes.{later, difference, change, Moves, Moves.up, Moves.down, Moves.next, ruler, descends, OneApart}
+use Rattle.gray_theory.specs.Members.{wordAt, member-is-wordAt, length-wordAt}
+use Rattle.gray_theory.specs.Sizes.{quotient-below, first-pos, size-pos, allFrom-take}
+use Rattle.gray_theory.specs.Increments.{Increment, Increment.no-carry, Increment.carry, increment, even-suc}
 
 -- ---- the ruler function and the direction, by the first radix
 pub ruler-carry : (m : ℕ) (ms : List ℕ) (j : ℕ) → j % m ≡ 0 → ruler (m ∷ ms) j ≡ suc (ruler ms (j / m))

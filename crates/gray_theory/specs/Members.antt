@@ -9,9 +9,9 @@ use mathlib.Core.Bool.{Bool, true, false, cond}
 use mathlib.Core.List.{List, [], _∷_, _++_, map}
 use lib.ListN.{length, getD, length-append, length-map, List·getD-append}
 use lib.Seq.{getD-at, getD-append-add}
-use Rattle.gray.specs.Radices.{size}
-use Rattle.gray.specs.Words.{even, upward, downward, notches, through, list, member, reflect}
-use Rattle.gray.specs.Sizes.{pos-of-lt-mul, quotient-below}
+use Rattle.gray_theory.specs.Radices.{size}
+use Rattle.gray_theory.specs.Words.{even, upward, downward, notches, through, list, member, reflect}
+use Rattle.gray_theory.specs.Sizes.{pos-of-lt-mul, quotient-below}
 
 -- digit 1 of the word of rank r, and then the word of rank r / m of the slower digits
 unfoldable pub wordAt : List ℕ → ℕ → List ℕ

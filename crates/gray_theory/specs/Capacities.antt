@@ -6,10 +6,10 @@ use mathlib.Core.Bool.{Bool, false, _||_}
 use mathlib.Core.List.{List}
 use borrow.Author.Tests.{eqb-false, ltb-false, ne-eqb, le-ltb}
 use lib.Dec.{eqb, ltb}
-use Rattle.gray.specs.Answers.{Answer, given, refusing}
-use Rattle.gray.specs.Bools.{neither}
-use Rattle.gray.specs.Radices.{ofRadices}
-use Rattle.gray.specs.Refusals.{Limits, within-limits, limits-pass, passed}
+use Rattle.gray_theory.specs.Answers.{Answer, given, refusing}
+use Rattle.gray_theory.specs.Bools.{neither}
+use Rattle.gray_theory.specs.Radices.{ofRadices}
+use Rattle.gray_theory.specs.Refusals.{Limits, within-limits, limits-pass, passed}
 
 -- refusal 5: the capacity is 0 or over 32
 abbrev pub wrongCapacity : ℕ → Bool

@@ -5,7 +5,6 @@ use mathlib.Core.Bool.{Bool, true, false, cond, _&&_, _||_, not}
 use mathlib.Core.List.{List}
 use lib.Dec.{eqb, ltb}
 use lib.ListN.{length, getD, set}
-use Rattle.gray.specs.declared.Directed.{Directed}
 
 -- the notch that a digit at notch a moves to
 abbrev pub movedFrom : ℕ → Bool → ℕ
@@ -42,10 +41,3 @@ wordInRange radices word downs =
     eqb (length word) (length radices)
     && eqb (length downs) (length radices)
     && digitsInRange (length radices) radices word downs
-
--- a digit in range moves, and turns where it must; one that is not stays as it came
-unfoldable pub advancedFrom : ℕ → ℕ → Bool → Directed
-advancedFrom m a down =
-    cond (digitInRange m a down)
-    (record { digit = movedFrom a down; down = turnedAt m (movedFrom a down) down })
-    (record { digit = a; down = down })

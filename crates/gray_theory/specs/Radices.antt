@@ -5,7 +5,7 @@ use mathlib.Core.Bool.{Bool, true, _&&_, _||_, not}
 use mathlib.Core.List.{List, [], _∷_, reverse}
 use lib.Dec.{leb, ltb, eqb}
 use lib.ListN.{length}
-use Rattle.gray.specs.Answers.{Answer, refusing}
+use Rattle.gray_theory.specs.Answers.{Answer, refusing}
 
 -- the digits that lent bytes hold, and the bytes of a list of digits: a setting as bytes is a_n first
 abbrev pub digits : List ℕ → List ℕ

@@ -6,8 +6,8 @@ use mathlib.Core.Path.{_≡_, sym, ap, _∙_}
 use mathlib.Core.List.{List, [], _∷_, _++_, append-assoc}
 use lib.ListN.{length, getD, take, drop, set, replicate, length-append, length-replicate, length-set, length-reverse, replicate-append-replicate, List·getD-append}
 use lib.Seq.{take-all, take-length, take-suc, take-append-seam, length-take-le, set-at, set-append-left, set-append-seam, append-snoc}
-use Rattle.gray.specs.Radices.{digits}
-use Rattle.gray.specs.Arrays.{filled, digitArray}
+use Rattle.gray_theory.specs.Radices.{digits}
+use Rattle.gray_theory.specs.Arrays.{filled, digitArray}
 
 module _ {A : Type 0} (room : ℕ) (z : A) where
   pub take-filled : (l : List A) → take (length l) (filled room z l) ≡ l

@@ -4,15 +4,14 @@ use native.Mathlib.Decide.{decLt, ℕ-discrete}
 use native.Mathlib.Numerals.{add-one}
 use native.Mathlib.Omega.{arith}
 use mathlib.Core.Path.{_≡_, refl, ap, ap₂, _∙_}
-use mathlib.Core.Bool.{Bool, true, false, cond, _&&_, not, and-eq-true-iff, and-false}
+use mathlib.Core.Bool.{Bool, true, false, _&&_, not, and-eq-true-iff, and-false}
 use mathlib.Core.List.{List}
 use borrow.Author.Tests.{lt-ltb, ltb-true, eq-eqb, ne-eqb, not-true, not-false}
 use lib.Dec.{eqb, ltb}
 use lib.ListN.{length, getD, set, take}
 use lib.Seq.{getD-set-same, getD-set-other, getD-take, length-take-le}
-use Rattle.gray.specs.declared.Directed.{Directed}
-use Rattle.gray.specs.Directions.{movedFrom, turnedAt, wordMoved, downsMoved, allBelow, digitInRange, digitsInRange, wordInRange, advancedFrom}
-use Rattle.gray.specs.Bools.{impossible}
+use Rattle.gray_theory.specs.Directions.{movedFrom, turnedAt, wordMoved, downsMoved, allBelow, digitInRange, digitsInRange, wordInRange}
+use Rattle.gray_theory.specs.Bools.{impossible}
 
 -- ---- a test over all numbers below n
 pub allBelow-each : (n : ℕ) (test : ℕ → Bool) → allBelow n test ≡ true → (i : ℕ) → i < n → test i ≡ true
@@ -108,21 +107,6 @@ digit-moves-in-range m a false two e =
     let off-top : a ≡ m - 1 → ⊥ = λ t. impossible (cc (s .down-at-top t)) in
     says-digit m (a + 1) (turnedAt m (a + 1) false)
     (turned-in-range m (a + 1) false (omega arith) (λ z. absurd (omega arith)) (λ t. refl) (λ z t. omega arith))
-
--- the call that moves a digit: one in range goes on, any other stays
-module _ (m a : ℕ) (down : Bool) where
-  abbrev advanced-if : Bool → Directed
-  advanced-if b =
-      cond b (record { digit = movedFrom a down; down = turnedAt m (movedFrom a down) down }) (record { digit = a; down = down })
-
-  pub digit-advanced : digitInRange m a down ≡ true
-      → advancedFrom m a down ≡ record { digit = movedFrom a down; down = turnedAt m (movedFrom a down) down }
-  unfolding advancedFrom
-  digit-advanced e = ap advanced-if e
-
-  pub digit-stays : digitInRange m a down ≡ false → advancedFrom m a down ≡ record { digit = a; down = down }
-  unfolding advancedFrom
-  digit-stays e = ap advanced-if e
 
 -- ---- all digits
 -- one digit's notch and direction are replaced by others in range: all digits stand in range

@@ -10,15 +10,15 @@ use borrow.Author.Tests.{eq-eqb, ne-eqb, leb-true}
 use lib.Dec.{leb}
 use lib.ListN.{length, getD, set, replicate}
 use lib.Seq.{getD-set-same}
-use Rattle.gray.specs.Radices.{size, allFrom}
-use Rattle.gray.specs.Words.{even, reflect}
-use Rattle.gray.specs.Changes.{Moves, Moves.up, Moves.down, Moves.next, ruler, descends}
-use Rattle.gray.specs.Directions.{movedFrom, turnedAt, wordMoved, downsMoved, digitInRange}
-use Rattle.gray.specs.Members.{wordAt, length-wordAt}
-use Rattle.gray.specs.Rulers.{ruler-carry, ruler-no-carry, descends-carry, descends-no-carry, wordAt-moves, moves-within}
-use Rattle.gray.specs.Sizes.{quotient-below}
-use Rattle.gray.specs.Increments.{Increment, Increment.no-carry, Increment.carry, increment, even-suc}
-use Rattle.gray.specs.DigitRanges.{DigitRange, says-digit}
+use Rattle.gray_theory.specs.Radices.{size, allFrom}
+use Rattle.gray_theory.specs.Words.{even, reflect}
+use Rattle.gray_theory.specs.Changes.{Moves, Moves.up, Moves.down, Moves.next, ruler, descends}
+use Rattle.gray_theory.specs.Directions.{movedFrom, turnedAt, wordMoved, downsMoved, digitInRange}
+use Rattle.gray_theory.specs.Members.{wordAt, length-wordAt}
+use Rattle.gray_theory.specs.Rulers.{ruler-carry, ruler-no-carry, descends-carry, descends-no-carry, wordAt-moves, moves-within}
+use Rattle.gray_theory.specs.Sizes.{quotient-below}
+use Rattle.gray_theory.specs.Increments.{Increment, Increment.no-carry, Increment.carry, increment, even-suc}
+use Rattle.gray_theory.specs.DigitRanges.{DigitRange, says-digit}
 
 -- digit 1 goes down where (r + 1) / m is odd, which turns it at its ends; the slower digits have the directions of rank r / m
 unfoldable pub downsAt : List ℕ → ℕ → List Bool

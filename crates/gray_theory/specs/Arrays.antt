@@ -2,7 +2,7 @@
 use Prim.Native.Nat.{ℕ, _-_}
 use mathlib.Core.List.{List, _++_}
 use lib.ListN.{length, take, replicate}
-use Rattle.gray.specs.Radices.{digits}
+use Rattle.gray_theory.specs.Radices.{digits}
 
 -- an array of k places: the list, and zeros or the like after it
 abbrev pub filled : {A : Type 0} → ℕ → A → List A → List A

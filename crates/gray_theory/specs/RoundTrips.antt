@@ -7,12 +7,12 @@ use mathlib.Core.List.{List, reverse-reverse}
 use borrow.Author.Tests.{leb-false, le-ltb, lt-leb, not-false}
 use lib.Dec.{leb, ltb}
 use lib.ListN.{length}
-use Rattle.gray.specs.Answers.{given, refusing, fitting}
-use Rattle.gray.specs.Radices.{digits, bytes, size}
-use Rattle.gray.specs.Words.{member, isWord, rank}
-use Rattle.gray.specs.Calls.{rankCall, wordCall}
-use Rattle.gray.specs.Ranks.{rank-of-member, member-of-rank}
-use Rattle.gray.specs.Refusals.{given-same, passed, radices-passed, radices-accepted}
+use Rattle.gray_theory.specs.Answers.{given, refusing, fitting}
+use Rattle.gray_theory.specs.Radices.{digits, bytes, size}
+use Rattle.gray_theory.specs.Words.{member, isWord, rank}
+use Rattle.gray_theory.specs.Calls.{rankCall, wordCall}
+use Rattle.gray_theory.specs.Ranks.{rank-of-member, member-of-rank}
+use Rattle.gray_theory.specs.Refusals.{given-same, passed, radices-passed, radices-accepted}
 
 -- what `word` writes has the rank that `word` was given
 pub rank-of-written : (l w : List ℕ) (r room : ℕ) → wordCall l r room ≡ given w → rankCall l w ≡ given r

@@ -6,9 +6,9 @@ use mathlib.Core.Bool.{and-comm, and-true}
 use mathlib.Core.List.{List, [], _∷_, reverse-cons}
 use lib.Dec.{leb}
 use lib.ListN.{length-reverse}
-use Rattle.gray.specs.Answers.{Answer}
-use Rattle.gray.specs.Radices.{digits, size, allFrom, ofRadices}
-use Rattle.gray.specs.Sizes.{size-append, allFrom-append}
+use Rattle.gray_theory.specs.Answers.{Answer}
+use Rattle.gray_theory.specs.Radices.{digits, size, allFrom, ofRadices}
+use Rattle.gray_theory.specs.Sizes.{size-append, allFrom-append}
 
 pub size-reverse : (ms : List ℕ) → size (digits ms) ≡ size ms
 unfolding size

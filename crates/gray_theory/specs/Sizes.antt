@@ -8,7 +8,7 @@ use mathlib.Core.List.{List, [], _∷_, _++_}
 use borrow.Author.Tests.{leb-true, le-leb}
 use lib.Dec.{leb}
 use lib.ListN.{length, getD, take}
-use Rattle.gray.specs.Radices.{size, allFrom}
+use Rattle.gray_theory.specs.Radices.{size, allFrom}
 
 -- ---- radices that are large enough
 pub allFrom-append : (k : ℕ) (a b : List ℕ) → allFrom k (a ++ b) ≡ allFrom k a && allFrom k b

@@ -5,15 +5,15 @@ use mathlib.Core.Path.{_≡_, sym, ap, ap₂, _∙_}
 use mathlib.Core.Bool.{Bool, true, false}
 use mathlib.Core.List.{List}
 use lib.ListN.{length, getD, take, replicate}
-use Rattle.gray.specs.Radices.{size, allFrom}
-use Rattle.gray.specs.Changes.{change}
-use Rattle.gray.specs.Directions.{movedFrom, turnedAt, wordMoved, downsMoved, digitInRange, digitsInRange}
-use Rattle.gray.specs.Arrays.{filled}
-use Rattle.gray.specs.Members.{wordAt, length-wordAt}
-use Rattle.gray.specs.Rulers.{change-is-ruler}
-use Rattle.gray.specs.Turns.{downsAt, length-downsAt, wordAt-start, downsAt-start, walk-in-range, Advances}
-use Rattle.gray.specs.DigitRanges.{each-allBelow}
-use Rattle.gray.specs.Filled.{take-filled, getD-filled, set-filled, filled-replicate}
+use Rattle.gray_theory.specs.Radices.{size, allFrom}
+use Rattle.gray_theory.specs.Changes.{change}
+use Rattle.gray_theory.specs.Directions.{movedFrom, turnedAt, wordMoved, downsMoved, digitInRange, digitsInRange}
+use Rattle.gray_theory.specs.Arrays.{filled}
+use Rattle.gray_theory.specs.Members.{wordAt, length-wordAt}
+use Rattle.gray_theory.specs.Rulers.{change-is-ruler}
+use Rattle.gray_theory.specs.Turns.{downsAt, length-downsAt, wordAt-start, downsAt-start, walk-in-range, Advances}
+use Rattle.gray_theory.specs.DigitRanges.{each-allBelow}
+use Rattle.gray_theory.specs.Filled.{take-filled, getD-filled, set-filled, filled-replicate}
 
 abbrev pub wordArray : List ℕ → ℕ → List ℕ
 wordArray ms r = filled 48 0 (wordAt ms r)

@@ -7,8 +7,8 @@ use mathlib.Core.Bool.{Bool, true, false, cond, not}
 use mathlib.Core.List.{List, [], _∷_}
 use lib.Dec.{eqb, ltb}
 use lib.ListN.{take, length, getD}
-use Rattle.gray.specs.Radices.{size}
-use Rattle.gray.specs.Words.{even, member}
+use Rattle.gray_theory.specs.Radices.{size}
+use Rattle.gray_theory.specs.Words.{even, member}
 
 -- a move of one digit by one notch: the digit's number, from 1, and whether it goes down
 pub record Change : Type 0 where

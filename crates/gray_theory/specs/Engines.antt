@@ -3,28 +3,14 @@
 use Prim.Native.Nat.{ℕ, zero, suc, _-_}
 use mathlib.Core.Path.{_≡_}
 use mathlib.Core.List.{List}
-use Rattle.gray.specs.Answers.{Answer, given, refused}
-use Rattle.gray.specs.Words.{member}
-use Rattle.gray.specs.Changes.{Change, change}
-use Rattle.gray.specs.declared.Opening.{Opening}
-use Rattle.gray.specs.declared.Opening.the-variants.{Open, Refused}
-use Rattle.gray.specs.declared.Stepping.{Stepping}
-use Rattle.gray.specs.declared.Stepping.the-variants.{Moved, End, Refused as StepRefused}
+use Rattle.gray_theory.specs.Answers.{Answer, given, refused}
+use Rattle.gray_theory.specs.Words.{member}
+use Rattle.gray_theory.specs.Changes.{Change, change}
 
 -- what an accepted call of an engine says: the change that it made, or that the walk has ended
 pub data Event : Type 0 where
   moved : Change → Event
   ended : Event
-
--- ---- the answer enums: this paper's number and values for each case
-abbrev pub openingAs : Opening → Answer Unit
-openingAs Open = given tt
-openingAs (Refused k) = refused k
-
-abbrev pub steppingAs : Stepping → Answer Event
-steppingAs (Moved k d) = given (moved (record { digit = k; down = d }))
-steppingAs End = given ended
-steppingAs (StepRefused k) = refused k
 
 -- ---- calls on a state
 -- what a call hands back: the state and its answer

@@ -1,0 +1,35 @@
+-- The reflected mixed-radix Gray code. Read the definitions first: they transcribe document 01. The theorems say what the
+-- definitions have to do with each other, and the laws are what proofs cite.
+
+-- definitions
+pub mod Answers
+pub mod Radices
+pub mod Words
+pub mod Changes
+pub mod Costs
+pub mod MoveBytes
+pub mod Calls
+pub mod Directions
+pub mod Arrays
+pub mod Engines
+-- theorems
+pub mod Members
+pub mod Ranks
+pub mod Rulers
+pub mod Bounds
+pub mod Packing
+pub mod RoundTrips
+pub mod Faults
+pub mod Turns
+-- laws
+pub mod Bools
+pub mod Sizes
+pub mod Increments
+pub mod Digits
+pub mod Reversals
+pub mod Refusals
+pub mod Capacities
+pub mod DigitRanges
+pub mod Filled
+pub mod Places
+pub mod WalkArrays
