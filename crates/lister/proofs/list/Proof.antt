@@ -8,7 +8,7 @@ use borrow.Author.Tests.{leb-true, leb-false, not-true, not-false}
 use Rattle.gray.specs.Answers.{given}
 use Rattle.gray.specs.Calls.{countedAs, sizeCall}
 use Rattle.gray.specs.Refusals.{accepted, passed-on, wrote-nothing}
-use Rattle.lister.specs.Calls.{listCall}
+use Rattle.lister_theory.specs.Calls.{listCall}
 use Rattle.lister.proofs.Runs.{run-refused, room-refused, table-asked, list-reached, run-written, none-written}
 use borrow.Author.Needs.{needs}
 use Rattle.lister.proofs.list.Statement.{statement}
