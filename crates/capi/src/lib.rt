@@ -8,8 +8,9 @@ ghost use mathlib.Core.Path.{_≡_};
 ghost use Rattle.gray_theory.specs.Answers.{refused};
 ghost use Rattle.gray_theory.specs.Calls.{sizeCall, rankCall, wordCall};
 ghost use Rattle.gray.specs.Enums.{countedAs, rankedAs, writtenAs};
-ghost use Rattle.lister.specs.Calls.{listCall};
-ghost use Rattle.movelog.specs.Calls.{readingAs, writeCall, readCall};
+ghost use Rattle.lister_theory.specs.Calls.{listCall};
+ghost use Rattle.movelog_theory.specs.Calls.{writeCall, readCall};
+ghost use Rattle.movelog.specs.Enums.{readingAs};
 ghost use Rattle.runs_theory.specs.Runs.{walkMovesCall, diskMovesCall};
 ghost use Rattle.capi.specs.Encoding.{encoded, Sent};
 

@@ -11,10 +11,10 @@ use lib.ListN.{length, getD, take, drop, set, length-append, length-map, length-
 use lib.Seq.{drop-cons, length-take-le, take-suc-set, append-snoc}
 use Rattle.gray_theory.specs.Radices.{size}
 use Rattle.gray_theory.specs.Words.{even, upward, downward}
-use Rattle.lister.specs.Listers.{blocks, listing}
+use Rattle.lister_theory.specs.Listers.{blocks, listing}
 use Rattle.gray_theory.specs.Places.{placed}
 use Rattle.lister.specs.Outputs.{window, laid, notchAfter, Reached, RowRoom}
-use Rattle.lister.specs.Reflections.{length-listing}
+use Rattle.lister_theory.specs.Reflections.{length-listing}
 use Rattle.lister.proofs.Windows.{window-append, window-none, window-past, one-word, window-map, length-window}
 use Rattle.lister.proofs.Windows.{blocks-append, Each, each-window, each-blocks, each-listing}
 use Rattle.lister.proofs.Windows.{laid-none, laid-word, laid-append, laid-after}

@@ -11,9 +11,9 @@ use lib.Seq.{length-take-le, take-all, take-suc, getD-drop}
 use Rattle.gray_theory.specs.Radices.{size}
 use Rattle.gray_theory.specs.Members.{getD-upward, getD-downward}
 use Rattle.gray_theory.specs.Words.{even, upward, downward}
-use Rattle.lister.specs.Listers.{blocks, listing}
+use Rattle.lister_theory.specs.Listers.{blocks, listing}
 use Rattle.lister.specs.Outputs.{window, laid, notchAfter, RowRoom}
-use Rattle.lister.specs.Reflections.{length-listing}
+use Rattle.lister_theory.specs.Reflections.{length-listing}
 use Rattle.gray_theory.specs.Places.{placed, placed-none, length-placed, placed-append}
 use Rattle.lister.proofs.Windows.{flatten-append}
 

@@ -15,11 +15,11 @@ use Rattle.gray_theory.specs.Words.{list}
 use Rattle.gray_theory.specs.Calls.{sizeCall}
 use Rattle.gray_theory.specs.Sizes.{allFrom-weaker}
 use Rattle.gray_theory.specs.Refusals.{accepted, radices-accepted, survey-size, survey-two, wrote-bytes}
-use Rattle.lister.specs.Calls.{wordsFrom, listCall}
-use Rattle.lister.specs.Listers.{listing}
+use Rattle.lister_theory.specs.Calls.{wordsFrom, listCall}
+use Rattle.lister_theory.specs.Listers.{listing}
 use Rattle.gray_theory.specs.Places.{placed}
 use Rattle.lister.specs.Outputs.{window, laid, Sized, Reached}
-use Rattle.lister.specs.Reflections.{upward-lister-lists-the-list, length-listing}
+use Rattle.lister_theory.specs.Reflections.{upward-lister-lists-the-list, length-listing}
 use Rattle.lister.proofs.Windows.{window-map, length-window, each-window, each-listing, length-laid}
 
 -- the bytes that are owed

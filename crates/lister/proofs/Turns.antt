@@ -10,7 +10,7 @@ use lib.Seq.{take-take, take-set-le}
 use borrow.Author.Tests.{ltb-true, ltb-false, lt-ltb}
 use Rattle.gray_theory.specs.Radices.{size}
 use Rattle.gray_theory.specs.Words.{even}
-use Rattle.lister.specs.Listers.{listing}
+use Rattle.lister_theory.specs.Listers.{listing}
 use Rattle.lister.specs.Outputs.{window, laid, notchAfter, Reached, RowRoom}
 use Rattle.lister.proofs.Blocks.{
   Along,

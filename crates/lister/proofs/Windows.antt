@@ -7,7 +7,7 @@ use mathlib.Core.Bool.{Bool, true, false, cond, not}
 use mathlib.Core.List.{List, [], _∷_, _++_, map, flatten, append-nil, append-assoc, map-append}
 use lib.ListN.{length, take, drop, length-append, length-drop, drop-of-length-le}
 use lib.Seq.{take-nil, append-snoc}
-use Rattle.lister.specs.Listers.{blocks, listing}
+use Rattle.lister_theory.specs.Listers.{blocks, listing}
 use Rattle.lister.specs.Outputs.{window, laid}
 use Rattle.gray_theory.specs.Places.{placed, placed-none, placed-append}
 use Rattle.gray_theory.specs.Words.{even, upward, downward}

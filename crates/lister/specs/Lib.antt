@@ -1,12 +1,2 @@
--- The writer of settings. Read the definitions first; Reflections has the theorem about the two listers.
-
--- definitions
-pub mod Listers
-pub mod Calls
--- theorems
-pub mod WordsFrom
-pub mod Reflections
--- the list backward, and with one digit more at its slow end
-pub mod Reversing
--- what private functions ask for and leave
+-- What private functions ask for and leave. What the writer of settings writes is in `lister_theory`.
 pub mod Outputs

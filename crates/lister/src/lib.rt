@@ -15,8 +15,8 @@ ghost use Rattle.gray.specs.Enums.{writtenAs};
 ghost use Rattle.gray_theory.specs.Radices.{size as sizeOf, allFrom};
 ghost use Rattle.gray_theory.specs.Words.{even};
 ghost use Rattle.gray_theory.specs.Places.{placed};
-ghost use Rattle.lister.specs.Listers.{listing};
-ghost use Rattle.lister.specs.Calls.{listCall};
+ghost use Rattle.lister_theory.specs.Listers.{listing};
+ghost use Rattle.lister_theory.specs.Calls.{listCall};
 ghost use Rattle.lister.specs.Outputs.{window, laid, notchAfter, Sized, Reached, RowRoom};
 
 // The bytes go by way of a local array: nothing else refers to it, so they can all be moved at once.

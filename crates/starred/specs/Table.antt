@@ -24,11 +24,11 @@ use Rattle.towers.specs.declared.Towers.{Towers}
 use Rattle.towers.specs.States.{allOdd, allEvenAndEqual, setting as diskSetting, inRange as disksInRange}
 use Rattle.towers.specs.Choices.{pegOf, smallest, chosen}
 use Rattle.towers.specs.Calls.{closedTowers, fresh as freshDisks, openOf as openDisks, moveOf as moveDisk, stepOf as stepDisks}
-use Rattle.lister.specs.Listers.{blocks, listing}
-use Rattle.lister.specs.Calls.{listCall}
-use Rattle.movelog.specs.Logs.{highFirst, digitRecords, movesFrom, logOf}
-use Rattle.movelog.specs.Shapes.{movesThenEnd, digitsThenMoves, shaped, radicesOf, countMoves, sameBytes}
-use Rattle.movelog.specs.Calls.{writeCall, readCall, movesCall}
+use Rattle.lister_theory.specs.Listers.{blocks, listing}
+use Rattle.lister_theory.specs.Calls.{listCall}
+use Rattle.movelog_theory.specs.Logs.{highFirst, digitRecords, movesFrom, logOf}
+use Rattle.movelog_theory.specs.Shapes.{movesThenEnd, digitsThenMoves, shaped, radicesOf, countMoves, sameBytes}
+use Rattle.movelog_theory.specs.Calls.{writeCall, readCall, movesCall}
 use Rattle.starred.specs.Same.{Test, numbers, changes, events, units, lists, answers}
 
 -- a row: what the definitions give, and what document 01 says it is

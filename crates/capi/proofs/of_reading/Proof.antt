@@ -1,6 +1,6 @@
 -- `capi::of_reading` meets its contract: a refusal is encoded by its number. Assumes nothing.
 use mathlib.Core.Path.{sym, ap, _∙_}
-use Rattle.movelog.specs.Calls.{readingAs}
+use Rattle.movelog.specs.Enums.{readingAs}
 use Rattle.capi.specs.Encoding.{encoded}
 use borrow.Author.Needs.{needs}
 use Rattle.capi.proofs.of_reading.Statement.{statement}

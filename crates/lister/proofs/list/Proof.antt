@@ -10,7 +10,7 @@ use Rattle.gray_theory.specs.Calls.{sizeCall}
 use Rattle.gray.specs.Enums.{countedAs}
 use Rattle.gray_theory.specs.Refusals.{accepted, wrote-nothing}
 use Rattle.gray.specs.Passing.{passed-on}
-use Rattle.lister.specs.Calls.{listCall}
+use Rattle.lister_theory.specs.Calls.{listCall}
 use Rattle.lister.proofs.Runs.{run-refused, room-refused, table-asked, list-reached, run-written, none-written}
 use borrow.Author.Needs.{needs}
 use Rattle.lister.proofs.list.Statement.{statement}

@@ -8,7 +8,7 @@ use lib.Seq.{getD-take, getD-drop, length-take-le}
 use Rattle.gray_theory.specs.Radices.{size}
 use Rattle.gray_theory.specs.Words.{list, member}
 use Rattle.gray_theory.specs.Members.{list-has-size}
-use Rattle.lister.specs.Calls.{wordsFrom}
+use Rattle.lister_theory.specs.Calls.{wordsFrom}
 
 -- word k of them, from 0, is the member of rank r + k
 pub words-from-r-are-the-members : (ms : List ℕ) (r t k : ℕ) → k < t → getD (wordsFrom ms r t) k [] ≡ member ms (r + k)

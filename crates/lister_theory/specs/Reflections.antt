@@ -8,8 +8,8 @@ use Rattle.gray_theory.specs.Members.{list-has-size}
 use Rattle.gray_theory.specs.Radices.{digits, bytes, size}
 use Rattle.gray_theory.specs.Reversals.{size-reverse}
 use Rattle.gray_theory.specs.Words.{even, upward, downward, list}
-use Rattle.lister.specs.Listers.{blocks, listing}
-use Rattle.lister.specs.Reversing.{reverse-upward, ending, stacks, reverse-stacks, list-slower}
+use Rattle.lister_theory.specs.Listers.{blocks, listing}
+use Rattle.lister_theory.specs.Reversing.{reverse-upward, ending, stacks, reverse-stacks, list-slower}
 
 -- what stands last in a word stands first in its bytes
 bytes-ending : (a : ℕ) (words : List (List ℕ)) → map bytes (ending a words) ≡ map (λ w. a ∷ w) (map bytes words)

@@ -1,4 +1,4 @@
--- What the call of this crate answers, in document 01's terms: the refusals in their order, and then the bytes.
+-- What the call of `lister` answers, in document 01's terms: the refusals in their order, and then the bytes.
 use Prim.Native.Nat.{ℕ, _+_}
 use mathlib.Core.List.{List, map, flatten}
 use lib.Dec.{ltb}

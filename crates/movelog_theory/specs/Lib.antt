@@ -1,0 +1,14 @@
+-- The log. Read the definitions first; Accepted and RoundTrips have the theorems.
+
+-- definitions
+pub mod Logs
+pub mod Shapes
+pub mod Calls
+-- theorems
+pub mod Accepted
+pub mod RoundTrips
+pub mod Examples
+-- laws
+pub mod Lengths
+pub mod Sames
+pub mod Parsing
