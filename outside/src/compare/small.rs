@@ -1,0 +1,155 @@
+//! Every survey of at most 5 sluices, counts 2 to 5 and at most 1,000 settings, held to the list as it is defined.
+use super::{both, Group};
+use crate::capi;
+use crate::chance::Chance;
+use crate::second::{buffered, disks, log, survey};
+
+const MOST_SLUICES: usize = 5;
+const MOST_SETTINGS: u64 = 1000;
+const CAPACITIES: std::ops::RangeInclusive<usize> = 1..=32;
+
+/// A survey with its list and the move bytes of all its changes.
+struct Known {
+    counts: Vec<u8>,
+    list: Vec<Vec<u8>>,
+    moves: Vec<u8>,
+}
+
+impl Known {
+    fn of(counts: Vec<u8>) -> Known {
+        let list = survey::list(&counts);
+        let moves = survey::moves_along(&list);
+        Known { counts, list, moves }
+    }
+
+    fn size(&self) -> u64 {
+        self.list.len() as u64
+    }
+
+    fn log(&self, capacity: usize, t: u64) -> Vec<u8> {
+        log::compose(&self.counts, self.size(), capacity as u8, &self.moves[..t as usize])
+    }
+}
+
+pub fn compare(g: &mut Group, chance: &mut Chance) {
+    for counts in surveys() {
+        let known = Known::of(counts);
+        both::size(g, &known.counts).is(g, || format!("size of {:?}", known.counts), Ok(known.size()));
+        settings(g, chance, &known);
+        ranks(g, &known);
+        buffered_moves(g, chance, &known);
+        disk_moves(g, chance, &known);
+        logs_of_all_lengths(g, chance, &known);
+        logs_of_all_capacities(g, chance, &known);
+    }
+}
+
+fn surveys() -> Vec<Vec<u8>> {
+    let mut all = vec![];
+    let mut shorter = vec![vec![]];
+    for _ in 0..MOST_SLUICES {
+        shorter = shorter
+            .iter()
+            .flat_map(|counts: &Vec<u8>| (2..=5).map(|m| [&counts[..], &[m]].concat()))
+            .collect();
+        all.extend(
+            shorter
+                .iter()
+                .filter(|counts| survey::size(counts).is_ok_and(|size| size <= MOST_SETTINGS))
+                .cloned(),
+        );
+    }
+    all
+}
+
+/// The whole list, and windows of it with just enough room, too little and more.
+fn settings(g: &mut Group, chance: &mut Chance, known: &Known) {
+    let n = known.counts.len();
+    let whole = known.list.concat();
+    both::list_is(g, &known.counts, 0, known.size(), whole.len(), Ok(&whole));
+    for _ in 0..20 {
+        let from = chance.between(0, known.list.len());
+        let to = chance.between(from, known.list.len());
+        let (start, window) = (from as u64, &whole[n * from..n * to]);
+        let count = (to - from) as u64;
+        both::list_is(g, &known.counts, start, count, window.len(), Ok(window));
+        both::list_is(
+            g,
+            &known.counts,
+            start,
+            count,
+            window.len() + chance.between(1, 9),
+            Ok(window),
+        );
+        if count > 0 {
+            both::list_is(g, &known.counts, start, count, window.len() - 1, Err(9));
+        }
+        both::list_is(g, &known.counts, start, known.size() - start + 1, whole.len() + n, Err(8));
+    }
+}
+
+/// Every rank both ways; ours is held to the list too.
+fn ranks(g: &mut Group, known: &Known) {
+    let n = known.counts.len();
+    for (rank, setting) in (0..).zip(&known.list) {
+        both::rank(g, &known.counts, setting).is(g, || format!("rank of {setting:?} in {:?}", known.counts), Ok(rank));
+        let ours = survey::setting(&known.counts, rank);
+        g.same(|| format!("our setting of rank {rank} in {:?}", known.counts), setting, &ours);
+        both::word_is(g, &known.counts, rank, n, Ok(setting));
+    }
+    both::word_is(g, &known.counts, known.size(), n, Err(8));
+}
+
+/// Lengths of output at which an engine may stop, or be stopped.
+fn rooms(chance: &mut Chance, known: &Known) -> [usize; 4] {
+    let last = known.moves.len();
+    [last, last + 4, chance.between(0, last), 0]
+}
+
+/// Every capacity, and so walks that run dry: they write as many moves as ours makes, all of them the list's.
+fn buffered_moves(g: &mut Group, chance: &mut Chance, known: &Known) {
+    let counts = &known.counts;
+    for capacity in CAPACITIES {
+        let made = buffered::moves(counts, capacity, usize::MAX).expect("the survey can be opened");
+        let least = if 2 * capacity >= counts.len() { known.moves.len() } else { 0 };
+        let name = || format!("our buffered moves of {counts:?}, capacity {capacity}");
+        g.same(name, &known.moves[..made.len().max(least)], &made[..]);
+        for room in rooms(chance, known) {
+            both::moves_are(g, counts, capacity, room, Ok(&made[..room.min(made.len())]));
+        }
+    }
+}
+
+/// The disk engine's moves, or refusal 6.
+fn disk_moves(g: &mut Group, chance: &mut Chance, known: &Known) {
+    if let Ok(made) = disks::moves(&known.counts, usize::MAX) {
+        g.same(|| format!("our disk moves of {:?}", known.counts), &known.moves, &made);
+    }
+    for room in rooms(chance, known) {
+        both::towers(g, &known.counts, room);
+    }
+}
+
+/// Logs of every t at one capacity: with just enough room, one byte too little, and read back.
+fn logs_of_all_lengths(g: &mut Group, chance: &mut Chance, known: &Known) {
+    let capacity = chance.between(1, 32);
+    for t in 0..known.size() {
+        let log = known.log(capacity, t);
+        both::log_is(g, &known.counts, capacity, t, log.len(), Ok(&log));
+        both::log_is(g, &known.counts, capacity, t, log.len() - 1, Err(9));
+        g.same(|| format!("reading of the log {log:?}"), &Ok(t), &capi::log_read(&log));
+    }
+    let room = known.log(capacity, known.size() - 1).len() + 2;
+    both::log_is(g, &known.counts, capacity, known.size(), room, Err(8));
+}
+
+/// Logs of every capacity at a few t, ours written and read as well.
+fn logs_of_all_capacities(g: &mut Group, chance: &mut Chance, known: &Known) {
+    for capacity in CAPACITIES {
+        for t in [0, chance.below(known.size()), known.size() - 1] {
+            let log = known.log(capacity, t);
+            both::log_write(g, &known.counts, capacity, t, log.len());
+            both::log_read(g, &log).is(g, || format!("reading of the log {log:?}"), Ok(t));
+        }
+    }
+}

@@ -1,0 +1,110 @@
+//! Surveys by chance, large and small. All can be opened but those of `over`.
+use crate::chance::Chance;
+use crate::second::survey;
+
+/// The most settings.
+const LIMIT: u64 = 1 << 62;
+
+/// The smallest product over 2^62 that counts up to 255 can make: 2^62 + 1,243,840.
+pub const SMALLEST_OVER: [u8; 10] = [64, 49, 31, 43, 53, 97, 103, 103, 113, 179];
+
+/// Up to `most` sluices, counts up to `highest`.
+pub fn small(chance: &mut Chance, most: usize, highest: u8) -> Vec<u8> {
+    let n = chance.between(1, most);
+    chance.bytes(n, 2, highest)
+}
+
+/// Any length up to 48; counts as high as the sluices that are still to come leave room for, or lower.
+pub fn any(chance: &mut Chance) -> Vec<u8> {
+    let n = chance.between(1, 48);
+    let mut room = LIMIT;
+    let mut counts: Vec<u8> = (1..=n)
+        .map(|i| {
+            let highest = (room >> (n - i)).min(255) as u8;
+            let m = chance.byte(2, highest);
+            room /= u64::from(m);
+            if chance.once_in(2) {
+                m
+            } else {
+                2
+            }
+        })
+        .collect();
+    chance.shuffle(&mut counts);
+    counts
+}
+
+/// Counts up to `highest` until one more can fill up the product; that one is `last` of what is left to be filled.
+fn filled(chance: &mut Chance, highest: u8, last: impl Fn(u64) -> u64) -> Vec<u8> {
+    let mut counts = vec![];
+    let mut room = LIMIT;
+    while room > 255 {
+        let m = chance.byte(2, highest.min((room / 2).min(255) as u8));
+        counts.push(m);
+        room = LIMIT / product(&counts);
+    }
+    counts.push(last(room).clamp(2, 255) as u8);
+    chance.shuffle(&mut counts);
+    counts
+}
+
+fn product(counts: &[u8]) -> u64 {
+    counts.iter().map(|&m| u64::from(m)).product()
+}
+
+/// N at most 2^62, and so near that the last count cannot be larger.
+pub fn just_below(chance: &mut Chance) -> Vec<u8> {
+    let highest = chance.pick(&[3, 4, 6, 20, 255]);
+    let counts = filled(chance, highest, |room| room);
+    if survey::size(&counts).is_ok() {
+        counts
+    } else {
+        exact(chance)
+    }
+}
+
+/// N over 2^62 because one count is larger by one than it could be.
+pub fn over(chance: &mut Chance) -> Vec<u8> {
+    let highest = chance.pick(&[3, 4, 6, 20, 254]);
+    let mut counts = filled(chance, highest, |room| room + 1);
+    if survey::size(&counts) != Err(4) {
+        counts = SMALLEST_OVER.to_vec();
+        chance.shuffle(&mut counts);
+    }
+    counts
+}
+
+/// N = 2^62 itself: powers of 2.
+pub fn exact(chance: &mut Chance) -> Vec<u8> {
+    let mut powers = vec![1_u8; chance.between(9, 48)];
+    let mut missing = 62 - powers.len();
+    while missing > 0 {
+        let x = chance.between(0, powers.len() - 1);
+        if powers[x] < 7 {
+            powers[x] += 1;
+            missing -= 1;
+        }
+    }
+    powers.iter().map(|power| 1 << power).collect()
+}
+
+/// Counts that the disk engine takes: all odd, or all even and equal.
+pub fn for_disks(chance: &mut Chance, most: usize, highest: u8) -> Vec<u8> {
+    let n = chance.between(1, most);
+    let even = 2 * chance.byte(1, highest / 2);
+    let odd = chance.once_in(2);
+    let mut counts = vec![];
+    for _ in 0..n {
+        let m = if odd {
+            1 + 2 * chance.byte(1, (highest - 1) / 2)
+        } else {
+            even
+        };
+        counts.push(m);
+        if survey::size(&counts).is_err() {
+            counts.pop();
+            break;
+        }
+    }
+    counts
+}

@@ -1,0 +1,141 @@
+//! The buffered engine: document 01, "The buffered engine", and document 004, section 10.
+use super::sluices::Sluices;
+use super::survey::{self, MOST_SLUICES};
+use super::{Answer, Refusal};
+
+pub const MOST_CAPACITY: usize = 32;
+
+/// `queued` and `place` may be anything in a made-up state. The oldest entry is the first.
+#[derive(Clone, Debug, PartialEq, Eq)]
+pub struct Walk {
+    pub sluices: Sluices,
+    pub capacity: usize,
+    pub counter: [u8; MOST_SLUICES + 1],
+    pub place: usize,
+    pub queued: usize,
+    pub entry: [u8; MOST_CAPACITY],
+    pub steps: u64,
+    pub moves: u64,
+    pub ended: bool,
+}
+
+/// Refusal 5.
+pub fn check_capacity(capacity: usize) -> Result<(), Refusal> {
+    if capacity == 0 || capacity > MOST_CAPACITY {
+        return Err(5);
+    }
+    Ok(())
+}
+
+impl Walk {
+    fn fresh(sluices: Sluices, capacity: usize) -> Walk {
+        Walk {
+            sluices,
+            capacity,
+            counter: [0; MOST_SLUICES + 1],
+            place: 1,
+            queued: 0,
+            entry: [0; MOST_CAPACITY],
+            steps: 0,
+            moves: 0,
+            ended: false,
+        }
+    }
+
+    /// The state before any opening.
+    pub fn closed() -> Walk {
+        Walk::fresh(Sluices::closed(), 0)
+    }
+
+    /// A fresh walk.
+    pub fn open(counts: &[u8], capacity: usize) -> Result<Walk, Refusal> {
+        survey::size(counts)?;
+        check_capacity(capacity)?;
+        Ok(Walk::fresh(Sluices::fresh(counts), capacity))
+    }
+
+    /// m_i, where m_(n+1) is 2.
+    pub fn count(&self, i: usize) -> u8 {
+        if i == self.sluices.n + 1 {
+            2
+        } else {
+            self.sluices.radix[i - 1]
+        }
+    }
+
+    /// Whether a handed-in state is in range.
+    fn in_range(&self) -> bool {
+        let Some(size) = self.sluices.size() else { return false };
+        let beyond = self.sluices.n + 1;
+        let most_steps = 2 * u128::from(self.moves) + if self.ended { 2 } else { 0 };
+        check_capacity(self.capacity).is_ok()
+            && self.sluices.setting_in_range()
+            && (1..=beyond).all(|i| self.counter[i - 1] < self.count(i))
+            && (1..=beyond).contains(&self.place)
+            && self.queued <= self.capacity
+            && self.entry[..self.queued].iter().all(|&k| (1..=beyond).contains(&k.into()))
+            && self.moves <= size - 1
+            && u128::from(self.steps) <= most_steps
+    }
+
+    /// One work step.
+    fn work(&mut self) {
+        let i = self.place;
+        let b = self.counter[i - 1];
+        if i == self.sluices.n + 1 && b == 1 {
+            return; // idle, no carry past the last place
+        }
+        if b == self.count(i) - 1 {
+            self.counter[i - 1] = 0;
+            self.place += 1;
+        } else if self.queued < self.capacity {
+            self.counter[i - 1] += 1;
+            self.entry[self.queued] = i as u8;
+            self.queued += 1;
+            self.place = 1;
+        } else {
+            return; // idle, the queue is full
+        }
+        self.steps += 1;
+    }
+
+    /// The oldest entry, if there is one.
+    fn remove(&mut self) -> Option<usize> {
+        if self.queued == 0 {
+            return None;
+        }
+        let oldest = self.entry[0];
+        self.entry.rotate_left(1);
+        self.queued -= 1;
+        Some(oldest.into())
+    }
+
+    /// One call.
+    pub fn step(&mut self) -> Answer {
+        if !self.in_range() {
+            return Answer::Refused(7);
+        }
+        if self.ended {
+            return Answer::End;
+        }
+        let mut next = self.clone();
+        next.work();
+        next.work();
+        let Some(k) = next.remove() else { return Answer::Refused(10) };
+        let answer = if k == next.sluices.n + 1 {
+            next.ended = true;
+            Answer::End
+        } else {
+            next.moves += 1;
+            Answer::Moved(next.sluices.move_sluice(k))
+        };
+        *self = next;
+        answer
+    }
+}
+
+/// Move bytes of a fresh walk until `room` is full, the walk ends or a call is dry.
+pub fn moves(counts: &[u8], capacity: usize, room: usize) -> Result<Vec<u8>, Refusal> {
+    let mut walk = Walk::open(counts, capacity)?;
+    Ok(super::move_bytes_of(|| walk.step(), room))
+}

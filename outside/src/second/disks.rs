@@ -1,0 +1,116 @@
+//! The disk engine: document 01, "The disk engine", and document 004, sections 7 and 8.
+use super::sluices::Sluices;
+use super::survey::{self, MOST_SLUICES};
+use super::{Answer, Refusal};
+
+/// `turn` and the pegs may be anything in a made-up state. The pegs count for even counts only.
+#[derive(Clone, Debug, PartialEq, Eq)]
+pub struct Disks {
+    pub sluices: Sluices,
+    pub turn: usize,
+    pub peg: [u8; MOST_SLUICES],
+}
+
+/// The two forms of the engine.
+#[derive(Clone, Copy, Debug, PartialEq, Eq)]
+enum Form {
+    /// Three pegs.
+    Odd,
+    /// A ring of m + 1 pegs.
+    Even(u8),
+}
+
+/// The form for these counts, of which there is one at least, or refusal 6.
+fn form(counts: &[u8]) -> Result<Form, Refusal> {
+    let m = counts[0];
+    if counts.iter().all(|m| m % 2 == 1) {
+        Ok(Form::Odd)
+    } else if m % 2 == 0 && counts.iter().all(|&other| other == m) {
+        Ok(Form::Even(m))
+    } else {
+        Err(6)
+    }
+}
+
+impl Disks {
+    fn fresh(sluices: Sluices) -> Disks {
+        Disks {
+            sluices,
+            turn: 0,
+            peg: [0; MOST_SLUICES],
+        }
+    }
+
+    /// The state before any opening.
+    pub fn closed() -> Disks {
+        Disks::fresh(Sluices::closed())
+    }
+
+    /// A fresh walk.
+    pub fn open(counts: &[u8]) -> Result<Disks, Refusal> {
+        survey::size(counts)?;
+        form(counts)?;
+        Ok(Disks::fresh(Sluices::fresh(counts)))
+    }
+
+    /// The form, if a handed-in state is in range.
+    fn form_in_range(&self) -> Option<Form> {
+        self.sluices.size()?;
+        let form = form(&self.sluices.counts()).ok()?;
+        let within = match form {
+            Form::Odd => self.turn <= 1,
+            Form::Even(m) => self.turn < m.into() && self.peg[..self.sluices.n].iter().all(|&peg| peg <= m),
+        };
+        (within && self.sluices.setting_in_range()).then_some(form)
+    }
+
+    /// Odd counts: left pair on turn 0, right pair on turn 1. A disk is off the left pair where it is on the right peg.
+    fn choose_odd(&self) -> Option<usize> {
+        let s = &self.sluices;
+        (1..=s.n).find(|&i| {
+            let off = if self.turn == 0 { s.radix[i - 1] - 1 } else { 0 };
+            s.digit[i - 1] != off
+        })
+    }
+
+    /// Even counts: disk 1 in its sweep, then the smallest disk that is not on its peg.
+    fn choose_even(&self, m: u8) -> Option<usize> {
+        if self.turn < usize::from(m) - 1 {
+            return Some(1);
+        }
+        (1..=self.sluices.n).find(|&i| self.peg[i - 1] != self.peg[0])
+    }
+
+    /// Disk k goes one peg round the ring of m + 1: clockwise if odd, else the other way.
+    fn go_round(&mut self, k: usize, m: u8) {
+        let pegs = u16::from(m) + 1;
+        let onward = if k % 2 == 1 { 1 } else { pegs - 1 };
+        self.peg[k - 1] = ((u16::from(self.peg[k - 1]) + onward) % pegs) as u8;
+    }
+
+    /// One call.
+    pub fn step(&mut self) -> Answer {
+        let Some(form) = self.form_in_range() else {
+            return Answer::Refused(7);
+        };
+        let chosen = match form {
+            Form::Odd => self.choose_odd(),
+            Form::Even(m) => self.choose_even(m),
+        };
+        let Some(k) = chosen else { return Answer::End };
+        match form {
+            Form::Odd => self.turn = 1 - self.turn,
+            Form::Even(m) => {
+                self.turn = (self.turn + 1) % usize::from(m);
+                self.go_round(k, m);
+            }
+        }
+        Answer::Moved(self.sluices.move_sluice(k))
+    }
+}
+
+/// Move bytes of a fresh walk until `room` is full or the walk ends.
+pub fn moves(counts: &[u8], room: usize) -> Result<Vec<u8>, Refusal> {
+    let mut disks = Disks::open(counts)?;
+    Ok(super::move_bytes_of(|| disks.step(), room))
+}

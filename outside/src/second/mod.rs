@@ -1,0 +1,42 @@
+//! The survey walk a second time: written from documents 01 and 004 alone, it shares nothing with the crates.
+//!
+//! It is plain before it is fast: each function says a sentence of document 01. As there, counts and settings as bytes have sluice
+//! n first; the arrays of an engine's state have sluice 1 first.
+pub mod buffered;
+pub mod disks;
+pub mod log;
+pub mod sluices;
+pub mod survey;
+pub mod text;
+
+#[cfg(test)]
+mod tests;
+
+/// A refusal is its number in document 01, "Turned down, in checking order".
+pub type Refusal = u8;
+
+/// What a call of an engine answers.
+#[derive(Clone, Copy, Debug, PartialEq, Eq)]
+pub enum Answer {
+    Moved(survey::Change),
+    End,
+    Refused(Refusal),
+}
+
+/// Refusal 9: the lent output is shorter than the bytes to be written.
+fn check_room(bytes: u128, room: usize) -> Result<(), Refusal> {
+    if bytes > room as u128 {
+        return Err(9);
+    }
+    Ok(())
+}
+
+/// Move bytes of an engine until it answers something else or `room` is full.
+fn move_bytes_of(mut step: impl FnMut() -> Answer, room: usize) -> Vec<u8> {
+    let mut bytes = vec![];
+    while bytes.len() < room {
+        let Answer::Moved(change) = step() else { break };
+        bytes.push(change.byte());
+    }
+    bytes
+}
