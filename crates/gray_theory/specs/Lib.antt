@@ -16,6 +16,7 @@ pub mod Engines
 pub mod Members
 pub mod Ranks
 pub mod Rulers
+pub mod FirstMoves
 pub mod Bounds
 pub mod Packing
 pub mod RoundTrips
