@@ -9,8 +9,8 @@ use Rattle.gray.specs.Answers.{numberOf}
 use Rattle.gray.specs.Calls.{countedAs, sizeCall}
 use Rattle.gray.specs.declared.Counted.{Counted}
 use Rattle.gray.specs.declared.Counted.the-variants.{Size, Refused as NotSized}
-use Rattle.text.specs.Lines.{sizedLine, surveyLine}
-use Rattle.text.specs.declared.Line.the-variants.{Refused, Long, Sizes}
+use Rattle.text_theory.specs.Lines.{sizedLine, surveyLine}
+use Rattle.text_theory.specs.declared.Line.the-variants.{Refused, Long, Sizes}
 
 module _ (radices : List ℕ) (o : Counted) (says : countedAs o ≡ sizeCall radices) where
   pub refused-line : (k n : ℕ) → o ≡ NotSized k → n ≡ numberOf (countedAs o) → Refused n ≡ surveyLine radices
