@@ -35,7 +35,7 @@ use gray::Ranked;
 use gray::Stepping;
 use gray::Written;
 use movelog::Reading;
-use text::Parsed;
+use reader::Parsed;
 use towers::Towers;
 ghost use mathlib.Core.Path.{_≡_};
 ghost use Prim.Native.Nat.{_≤_};
@@ -298,7 +298,7 @@ fn read_numbers(text: &[u8], numbers: &mut [u64]) -> Read
     while i < text.len() {
         let end = token_end(text, i);
         if i < end {
-            let read = text::number(&text[i..end]);
+            let read = reader::number(&text[i..end]);
             let Parsed::Number(value) = read else {
                 return none_read();
             };

@@ -3,9 +3,9 @@
 
 use bytes::scan::find;
 use gray::Written;
-use text::Found;
-use text::Line;
-use text::Reader;
+use reader::Found;
+use reader::Reader;
+use text_theory::Line;
 ghost use Prim.Native.Nat.{min};
 ghost use mathlib.Core.Path.{_≡_};
 ghost use lib.ListN.{length};

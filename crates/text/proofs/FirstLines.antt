@@ -10,8 +10,8 @@ use Rattle.gray_theory.specs.Calls.{sizeCall}
 use Rattle.gray.specs.Enums.{countedAs}
 use Rattle.gray.specs.declared.Counted.{Counted}
 use Rattle.gray.specs.declared.Counted.the-variants.{Size, Refused as NotSized}
-use Rattle.text.specs.Lines.{sizedLine, surveyLine}
-use Rattle.text.specs.declared.Line.the-variants.{Refused, Long, Sizes}
+use Rattle.text_theory.specs.Lines.{sizedLine, surveyLine}
+use Rattle.text_theory.specs.declared.Line.the-variants.{Refused, Long, Sizes}
 
 module _ (radices : List ℕ) (o : Counted) (says : countedAs o ≡ sizeCall radices) where
   pub refused-line : (k n : ℕ) → o ≡ NotSized k → n ≡ numberOf (countedAs o) → Refused n ≡ surveyLine radices

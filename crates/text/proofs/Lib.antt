@@ -1,4 +1,2 @@
-pub mod Numbers
-pub mod Readings
 pub mod Putting
 pub mod FirstLines

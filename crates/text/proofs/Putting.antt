@@ -14,12 +14,12 @@ use lib.Seq.{take-suc, take-all, take-at, drop-cons, getD-take, length-take-le}
 use Rattle.gray_theory.specs.Answers.{given, refused, Wrote}
 use Rattle.gray_theory.specs.Refusals.{wrote-nothing, wrote-bytes}
 use Rattle.gray_theory.specs.Places.{placed, placed-none, placed-set, placed-append}
-use Rattle.text.specs.Ascii.{ascii}
-use Rattle.text.specs.Decimals.{glyph, decimal}
-use Rattle.text.specs.Lines.{pointAfter, settingText, lineText, lineCall}
-use Rattle.text.specs.Numerals.{decimal-below-ten, decimal-from-ten, decimal-not-empty}
+use Rattle.text_theory.specs.Ascii.{ascii}
+use Rattle.text_theory.specs.Decimals.{glyph, decimal}
+use Rattle.text_theory.specs.Lines.{pointAfter, settingText, lineText, lineCall}
+use Rattle.text_theory.specs.Numerals.{decimal-below-ten, decimal-from-ten, decimal-not-empty}
+use Rattle.text_theory.specs.declared.Line.{Line}
 use Rattle.text.specs.Stages.{Put}
-use Rattle.text.specs.declared.Line.{Line}
 
 pub put-none : (at : ℕ) (out : List ℕ) → Put at [] out out at
 put-none at out = record { stands = sym (placed-none at out); ends = omega arith; room = refl }

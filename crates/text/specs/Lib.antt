@@ -1,16 +1,4 @@
--- The text of the program `walk` (document 01). Read the definitions first.
+-- The lines that the program `walk` writes: what they hold is in `Lines` of text_theory.
 
--- definitions
-pub mod Ascii
-pub mod Decimals
-pub mod Surveys
-pub mod Readers
-pub mod Lines
-pub mod Output
--- theorems
-pub mod Numerals
-pub mod Reading
--- laws
-pub mod Fits
 -- what private functions answer
 pub mod Stages

@@ -1,13 +1,13 @@
 // Document 01's program: it reads one line of notch counts, sluice n first, and prints the walk through all settings, a line each.
-// The moves are the buffered engine's. What a line of input says and what each line of output holds is proved in `text`.
+// The moves are the buffered engine's. What a line of input says is proved in `reader`, what each line of output holds in `text`.
 
 use ahead::Walk;
 use gray::Opening;
 use gray::Stepping;
 use gray::Written;
-use text::Found;
-use text::Line;
-use text::Reader;
+use reader::Found;
+use reader::Reader;
+use text_theory::Line;
 ghost use Prim.Native.Nat.{_≤_};
 ghost use lib.ListN.{length};
 ghost use Rattle.io.specs.Counts.{Counts};

@@ -1,6 +1,6 @@
 -- `text::put_decimal` meets its contract: the tenth part is smaller, so it ends. Assumes nothing.
 use native.Mathlib.Omega.{arith}
-use Rattle.text.specs.Numerals.{decimal-not-empty}
+use Rattle.text_theory.specs.Numerals.{decimal-not-empty}
 use Rattle.text.proofs.Putting.{tenth-length, digit-put, last-put}
 use Prim.Native.Nat.{ℕ, _<_}
 use borrow.Fn.Kinds.{In}

@@ -1,7 +1,7 @@
 -- `text::put_direction` meets its contract: one of two words. Assumes nothing.
 use mathlib.Core.Path.{sym, ap}
 use native.Mathlib.Omega.{arith}
-use Rattle.text.specs.Lines.{directionText}
+use Rattle.text_theory.specs.Lines.{directionText}
 use Rattle.text.proofs.Putting.{same-text}
 use borrow.Author.Needs.{needs}
 use Rattle.text.proofs.put_direction.Statement.{statement}

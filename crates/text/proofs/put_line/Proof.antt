@@ -4,9 +4,9 @@ use mathlib.Core.Path.{_≡_, sym, ap}
 use mathlib.Core.List.{List}
 use native.Mathlib.Omega.{arith}
 use lib.ListN.{take}
-use Rattle.text.specs.Lines.{lineText}
+use Rattle.text_theory.specs.Lines.{lineText}
+use Rattle.text_theory.specs.declared.Line.{Line}
 use Rattle.text.specs.Stages.{Put}
-use Rattle.text.specs.declared.Line.{Line}
 use Rattle.text.proofs.Putting.{same-text}
 use borrow.Author.Needs.{needs}
 use Rattle.text.proofs.put_line.Statement.{statement}

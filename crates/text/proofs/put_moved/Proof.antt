@@ -2,9 +2,9 @@
 use mathlib.Core.List.{_++_}
 use native.Mathlib.Omega.{arith}
 use lib.ListN.{take}
-use Rattle.text.specs.Ascii.{ascii}
-use Rattle.text.specs.Decimals.{decimal}
-use Rattle.text.specs.Lines.{settingText, directionText, lineText}
+use Rattle.text_theory.specs.Ascii.{ascii}
+use Rattle.text_theory.specs.Decimals.{decimal}
+use Rattle.text_theory.specs.Lines.{settingText, directionText, lineText}
 use Rattle.text.proofs.Putting.{and-then, same-text, regroup}
 use borrow.Author.Needs.{needs}
 use Rattle.text.proofs.put_moved.Statement.{statement}

@@ -3,9 +3,9 @@ use mathlib.Core.Path.{sym, ap}
 use mathlib.Core.Bool.{cond}
 use mathlib.Core.List.{[], _++_}
 use native.Mathlib.Omega.{arith}
-use Rattle.text.specs.Ascii.{ascii}
-use Rattle.text.specs.Decimals.{decimal}
-use Rattle.text.specs.Numerals.{decimal-length}
+use Rattle.text_theory.specs.Ascii.{ascii}
+use Rattle.text_theory.specs.Decimals.{decimal}
+use Rattle.text_theory.specs.Numerals.{decimal-length}
 use Rattle.text.proofs.Putting.{and-then, same-text}
 use borrow.Author.Needs.{needs}
 use Rattle.text.proofs.put_notch.Statement.{statement}

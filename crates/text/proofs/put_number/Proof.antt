@@ -1,6 +1,6 @@
 -- `text::put_number` meets its contract: 2^64 is below 10^20. Assumes nothing.
 use native.Mathlib.Omega.{arith}
-use Rattle.text.specs.Numerals.{decimal-length}
+use Rattle.text_theory.specs.Numerals.{decimal-length}
 use borrow.Author.Needs.{needs}
 use Rattle.text.proofs.put_number.Statement.{statement}
 use Rattle.text.proofs.put_number.Tie as tie

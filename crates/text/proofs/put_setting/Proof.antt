@@ -4,7 +4,7 @@ use mathlib.Core.Path.{_≡_, ap}
 use native.Mathlib.Omega.{arith}
 use borrow.Author.Needs.{needs}
 use lib.ListN.{length, take, drop}
-use Rattle.text.specs.Lines.{settingText}
+use Rattle.text_theory.specs.Lines.{settingText}
 use Rattle.text.specs.Stages.{Put}
 use Rattle.text.proofs.Putting.{same-text, setting-begun, notch-put}
 use Rattle.text.proofs.put_setting.Statement.{statement}

@@ -1,6 +1,6 @@
 -- `text::put_start` meets its contract: two pieces, one after another. Assumes nothing.
 use native.Mathlib.Omega.{arith}
-use Rattle.text.specs.Lines.{lineText}
+use Rattle.text_theory.specs.Lines.{lineText}
 use Rattle.text.proofs.Putting.{and-then}
 use borrow.Author.Needs.{needs}
 use Rattle.text.proofs.put_start.Statement.{statement}

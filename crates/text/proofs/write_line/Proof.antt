@@ -4,7 +4,7 @@ use native.Mathlib.Omega.{arith}
 use borrow.Author.Needs.{needs}
 use lib.ListN.{length, take, replicate}
 use lib.Seq.{length-take-le}
-use Rattle.text.specs.Lines.{lineText}
+use Rattle.text_theory.specs.Lines.{lineText}
 use Rattle.text.specs.Stages.{Put}
 use Rattle.text.proofs.Putting.{same-text, shown, line-refused, line-written}
 use Rattle.text.proofs.write_line.Statement.{statement}

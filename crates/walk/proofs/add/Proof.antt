@@ -6,7 +6,7 @@ use lib.ListN.{length, take, drop, length-take, length-drop}
 use lib.Seq.{length-take-le}
 use Rattle.io.proofs.Counting.{counts}
 use Rattle.gray.specs.Enums.{writtenAs}
-use Rattle.text.specs.Fits.{line-fits}
+use Rattle.text_theory.specs.Fits.{line-fits}
 use borrow.Author.Needs.{needs}
 use Rattle.walk.proofs.add.Statement.{statement}
 use Rattle.walk.proofs.add.Tie as tie

@@ -3,7 +3,7 @@ use mathlib.Core.Path.{_≡_, sym, _∙_}
 use native.Mathlib.Omega.{arith}
 use lib.ListN.{length}
 use lib.Seq.{length-take-le}
-use Rattle.text.specs.Reading.{few-counts}
+use Rattle.reader.specs.Reading.{few-counts}
 use borrow.Author.Needs.{needs}
 use Rattle.walk.proofs.add_answer.Statement.{statement}
 use Rattle.walk.proofs.add_answer.Tie as tie

@@ -1,0 +1,9 @@
+-- What the program `walk` reads, as a machine over bytes (document 01). Read the definitions first.
+
+-- definitions
+pub mod Parsing
+pub mod Readers
+-- theorems
+pub mod Reading
+-- what private functions answer
+pub mod Stages
