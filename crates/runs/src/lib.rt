@@ -8,7 +8,8 @@ ghost use mathlib.Core.Path.{_≡_};
 ghost use Rattle.gray_theory.specs.Answers.{numberOf, Wrote};
 ghost use Rattle.gray.specs.Enums.{writtenAs, openingAs};
 ghost use Rattle.ahead.specs.Calls.{stepOf as walkStep};
-ghost use Rattle.towers.specs.Calls.{stepOf as diskStep};
+ghost use Rattle.towers_theory.specs.Calls.{stepOf as diskStep};
+ghost use Rattle.towers.specs.Structs.{towersAs};
 ghost use Rattle.runs_theory.specs.Runs.{walkMovesCall, diskMovesCall};
 ghost use Rattle.runs.specs.Stages.{Stepped};
 
@@ -55,7 +56,7 @@ pub fn walk_moves(radices: &[u8], capacity: usize, out: &mut [u8]) -> Written
 
 // The same for the disk engine.
 fn put_disks(towers: Towers, out: &mut [u8]) -> usize
-    ensures { λ r. ⌜ Stepped diskStep towers r (now (out .entry)) (now (out .exit)) ⌝ }
+    ensures { λ r. ⌜ Stepped diskStep (towersAs towers) r (now (out .entry)) (now (out .exit)) ⌝ }
 {
     let mut at = towers;
     let mut i = 0;

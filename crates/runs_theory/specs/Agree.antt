@@ -15,9 +15,9 @@ use Rattle.gray_theory.specs.Engines.{Event, moved, Handed, after, answerOf}
 use Rattle.ahead.specs.Calls as ahead
 use Rattle.ahead.specs.Openings as ahead-opens
 use Rattle.ahead.specs.WorkAhead.{fresh-walks-work-ahead}
-use Rattle.towers.specs.Calls as towers
-use Rattle.towers.specs.Openings as towers-opens
-use Rattle.towers.specs.Walks.{disks-walk-the-list}
+use Rattle.towers_theory.specs.Calls as towers
+use Rattle.towers_theory.specs.Openings as towers-opens
+use Rattle.towers_theory.specs.Walks.{disks-walk-the-list}
 use Rattle.runs_theory.specs.Runs.{moveThen, movesFrom, runOf, walkMovesCall, diskMovesCall, listMoves}
 
 -- calls 1 to d − 1 of a run name their changes, and no later one moves

@@ -20,10 +20,9 @@ use Rattle.ahead.specs.States.{setting, producerInRange, inRange}
 use Rattle.ahead.specs.Work.{Work, carry, append, idle, kind, done}
 use Rattle.ahead.specs.Calls.{fresh, closedWalk, openOf, twice, course, dequeued, endOf, moveOf, stepOf}
 use Rattle.ahead.specs.Runs.{state, answer, events as eventsOf}
-use Rattle.towers.specs.declared.Towers.{Towers}
-use Rattle.towers.specs.States.{allOdd, allEvenAndEqual, setting as diskSetting, inRange as disksInRange}
-use Rattle.towers.specs.Choices.{pegOf, smallest, chosen}
-use Rattle.towers.specs.Calls.{closedTowers, fresh as freshDisks, openOf as openDisks, moveOf as moveDisk, stepOf as stepDisks}
+use Rattle.towers_theory.specs.States.{Towers, allOdd, allEvenAndEqual, setting as diskSetting, inRange as disksInRange}
+use Rattle.towers_theory.specs.Choices.{pegOf, smallest, chosen}
+use Rattle.towers_theory.specs.Calls.{closedTowers, fresh as freshDisks, openOf as openDisks, moveOf as moveDisk, stepOf as stepDisks}
 use Rattle.lister_theory.specs.Listers.{blocks, listing}
 use Rattle.lister_theory.specs.Calls.{listCall}
 use Rattle.movelog_theory.specs.Logs.{highFirst, digitRecords, movesFrom, logOf}

@@ -9,10 +9,10 @@ use mathlib.Core.Bool.{Bool, true, false, cond, _||_}
 use borrow.Author.Tests.{eq-eqb, ne-eqb, lt-ltb, le-ltb}
 use lib.Dec.{eqb}
 use Rattle.gray_theory.specs.Bools.{impossible}
-use Rattle.towers.specs.Choices.{sidePeg, onPair, smallest}
-use Rattle.towers.specs.Calls.{turnBy, pegAfter}
+use Rattle.towers_theory.specs.Choices.{sidePeg, onPair, smallest}
+use Rattle.towers_theory.specs.Calls.{turnBy, pegAfter}
 use Rattle.towers.specs.Stages.{found}
-use Rattle.towers.specs.Smallest.{smallest-none, smallest-some}
+use Rattle.towers_theory.specs.Smallest.{smallest-none, smallest-some}
 
 -- ---- three pegs
 module _ (m a : ℕ) where

@@ -19,11 +19,10 @@ use Rattle.gray_theory.specs.DigitRanges.{allBelow-same, digits-tested}
 use Rattle.gray_theory.specs.Filled.{take-filled, length-filled, digit-array}
 use Rattle.gray_theory.specs.Refusals.{accepted, radices-accepted, survey-refused, survey-accepted, given-unless}
 use Rattle.gray_theory.specs.Sizes.{radix-two}
-use Rattle.towers.specs.declared.Towers.{Towers}
-use Rattle.towers.specs.States.{allOdd, common, allEvenAndEqual, wrongCounts, openCheck, survey, turnInRange, pegsInRange, inRange}
-use Rattle.towers.specs.Calls.{freshWith, fresh, openWith, openOf}
-use Rattle.towers.specs.Openings.{Openable, openable}
-use Rattle.towers.specs.InRange.{Arrays, odd-by-first}
+use Rattle.towers_theory.specs.States.{Towers, allOdd, common, allEvenAndEqual, wrongCounts, openCheck, survey, turnInRange, pegsInRange, inRange}
+use Rattle.towers_theory.specs.Calls.{freshWith, fresh, openWith, openOf}
+use Rattle.towers_theory.specs.Openings.{Openable, openable}
+use Rattle.towers_theory.specs.InRange.{Arrays, odd-by-first}
 
 -- the test of the counts, as the code makes it
 abbrev playableCounts : List ℕ → Bool

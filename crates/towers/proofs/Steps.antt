@@ -18,14 +18,14 @@ use Rattle.gray_theory.specs.DigitRanges.{allBelow-each}
 use Rattle.gray_theory.specs.Engines.{ended, refusedWith}
 use Rattle.gray.specs.declared.Directed.{Directed}
 use Rattle.gray.specs.declared.Stepping.the-variants.{Moved}
-use Rattle.towers.specs.declared.Towers.{Towers}
-use Rattle.towers.specs.States.{allOdd, common, survey, inRange}
-use Rattle.towers.specs.Choices.{sidePeg, pegOf, smallest, onPair, sweeping, isTop, elsewhere, chosenOnPair, chosenOnRing, chosen}
-use Rattle.towers.specs.Calls.{steppedAs, turnBy, turnAfter, pegAfter, pegsAfter, moveOf, moveBy, stepOf}
+use Rattle.towers_theory.specs.States.{Towers, allOdd, common, survey, inRange}
+use Rattle.towers_theory.specs.Choices.{sidePeg, pegOf, smallest, onPair, sweeping, isTop, elsewhere, chosenOnPair, chosenOnRing, chosen}
+use Rattle.towers_theory.specs.Calls.{turnBy, turnAfter, pegAfter, pegsAfter, moveOf, moveBy, stepOf}
+use Rattle.towers.specs.Structs.{steppedAs}
 use Rattle.towers.specs.Stages.{found, PairDisks}
-use Rattle.towers.specs.Smallest.{smallest-same, smallest-elsewhere-is-top}
-use Rattle.towers.specs.Openings.{Openable}
-use Rattle.towers.specs.InRange.{Arrays, RangeSays, range-says, survey-openable, survey-long}
+use Rattle.towers_theory.specs.Smallest.{smallest-same, smallest-elsewhere-is-top}
+use Rattle.towers_theory.specs.Openings.{Openable}
+use Rattle.towers_theory.specs.InRange.{Arrays, RangeSays, range-says, survey-openable, survey-long}
 use Rattle.towers.proofs.Ranges.{disk-one, first-radix, odd-radix, radix-least}
 
 module _ (s : Towers) (long : Arrays s) (ranged : inRange s ≡ true) where

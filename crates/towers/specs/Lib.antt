@@ -1,24 +1,7 @@
--- The disk engine. Read the definitions first, then the game: the theorem in Walks says that the definitions play it along the
--- list.
+-- What the code of this crate adds to the definitions and theorems of the crate `towers_theory`: the structs that are declared here
+-- in its terms, and what only private functions cite.
 
 -- definitions
-pub mod States
-pub mod Choices
-pub mod Calls
--- what is promised of whole runs, and the theorems
-pub mod Game
-pub mod Walks
-pub mod Openings
-pub mod Kept
--- the run: why smaller disks are aside, for three pegs and for a ring, the states of each rank, the disk chosen, one call
-pub mod Stacks
-pub mod Pairs
-pub mod Rings
-pub mod Canonical
-pub mod Choosing
-pub mod Moving
--- laws
-pub mod Smallest
-pub mod InRange
+pub mod Structs
 -- what private functions ask for and answer
 pub mod Stages

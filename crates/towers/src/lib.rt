@@ -9,9 +9,10 @@ ghost use Prim.Native.Nat.{_≤_, _<_};
 ghost use lib.Dec.{eqb, leb};
 ghost use lib.ListN.{length, getD};
 ghost use Rattle.gray_theory.specs.Directions.{allBelow};
-ghost use Rattle.towers.specs.States.{allOdd, allEvenAndEqual, inRange};
-ghost use Rattle.towers.specs.Choices.{sidePeg, onPair, smallest, chosen};
-ghost use Rattle.towers.specs.Calls.{freshWith, closedTowers, openedAs, openOf, steppedAs, turnBy, pegAfter, moveOf, stepOf};
+ghost use Rattle.towers_theory.specs.States.{allOdd, allEvenAndEqual, inRange};
+ghost use Rattle.towers_theory.specs.Choices.{sidePeg, onPair, smallest, chosen};
+ghost use Rattle.towers_theory.specs.Calls.{freshWith, closedTowers, openOf, turnBy, pegAfter, moveOf, stepOf};
+ghost use Rattle.towers.specs.Structs.{towersAs, openedAs, steppedAs};
 ghost use Rattle.towers.specs.Stages.{found, PairDisks};
 
 // The state: the survey (radices and their number n), the word (setting), the turn, the directions (down or not) and the pegs. For
@@ -172,7 +173,7 @@ fn next_turn(odd: bool, m: u8, turn: u8) -> u8
 
 // The state that opening gives: the word all 0, the directions all up, the left pair's turn or a sweep's start, all disks on peg 0.
 fn fresh(radices: [u8; 48], n: u8) -> Towers
-    ensures { λ r. ⌜ r ≡ freshWith radices n ⌝ }
+    ensures { λ r. ⌜ towersAs r ≡ freshWith radices n ⌝ }
 {
     Towers {
         radices: radices,
@@ -187,14 +188,14 @@ fn fresh(radices: [u8; 48], n: u8) -> Towers
 impl Towers {
     // The state of no survey: every call on it gets 7.
     pub fn closed() -> Towers
-        ensures { λ r. ⌜ r ≡ closedTowers ⌝ }
+        ensures { λ r. ⌜ towersAs r ≡ closedTowers ⌝ }
     {
         fresh([0; 48], 0)
     }
 
     // Refused: the state that came, and the number. Accepted: the fresh state, whatever came.
     pub fn open(self, radices: &[u8]) -> Opened
-        ensures { λ r. ⌜ openedAs r ≡ openOf self (now (radices .entry)) ⌝ }
+        ensures { λ r. ⌜ openedAs r ≡ openOf (towersAs self) (now (radices .entry)) ⌝ }
     {
         let counted = gray::size(radices);
         let Counted::Size(_) = counted else {
@@ -219,7 +220,7 @@ impl Towers {
     }
 
     fn in_range(self) -> bool
-        ensures { λ r. ⌜ r ≡ inRange self ⌝ }
+        ensures { λ r. ⌜ r ≡ inRange (towersAs self) ⌝ }
     {
         if 48 < self.n {
             return false;
@@ -250,8 +251,8 @@ impl Towers {
 
     // The index of the disk that the call moves; n where there is none.
     fn choose(self) -> usize
-        requires { ⌜ inRange self ≡ true ⌝ }
-        ensures { λ r. ⌜ found (self .n) r ≡ chosen self ⌝ }
+        requires { ⌜ inRange (towersAs self) ≡ true ⌝ }
+        ensures { λ r. ⌜ found (self .n) r ≡ chosen (towersAs self) ⌝ }
     {
         let n = wide(self.n);
         let radices = self.radices;
@@ -269,7 +270,7 @@ impl Towers {
 
     // One call: a disk is chosen and moves, and its digit with it.
     pub fn step(self) -> Stepped
-        ensures { λ r. ⌜ steppedAs r ≡ stepOf self ⌝ }
+        ensures { λ r. ⌜ steppedAs r ≡ stepOf (towersAs self) ⌝ }
     {
         if !self.in_range() {
             return Stepped {
@@ -289,8 +290,8 @@ impl Towers {
 
     // The move of the disk at index i.
     fn advance(self, i: usize) -> Stepped
-        requires { ⌜ (inRange self ≡ true) × (i < self .n) ⌝ }
-        ensures { λ r. ⌜ steppedAs r ≡ moveOf self i ⌝ }
+        requires { ⌜ (inRange (towersAs self) ≡ true) × (i < self .n) ⌝ }
+        ensures { λ r. ⌜ steppedAs r ≡ moveOf (towersAs self) i ⌝ }
     {
         let radices = self.radices;
         let mut word = self.word;

@@ -4,8 +4,9 @@ use mathlib.Core.Path.{_≡_, sym, ap, _∙_}
 use Rattle.gray_theory.specs.Answers.{refused, numberOf}
 use Rattle.gray_theory.specs.Engines.{Handed}
 use Rattle.gray.specs.Enums.{openingAs}
-use Rattle.towers.specs.declared.Towers.{Towers}
-use Rattle.towers.specs.Calls.{closedTowers, openedAs, openOf, stepOf}
+use Rattle.towers_theory.specs.States.{Towers}
+use Rattle.towers_theory.specs.Calls.{closedTowers, openOf, stepOf}
+use Rattle.towers.specs.Structs.{openedAs}
 use Rattle.runs_theory.specs.Runs.{diskMovesCall}
 use Rattle.runs.proofs.Outputs.{run-refused, run-stepped}
 use borrow.Author.Needs.{needs}

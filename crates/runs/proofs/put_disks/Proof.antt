@@ -6,7 +6,8 @@ use mathlib.Core.List.{List}
 use lib.ListN.{length, length-set}
 use Rattle.gray_theory.specs.Engines.{Handed, Event}
 use Rattle.gray.specs.Enums.{steppingAs}
-use Rattle.towers.specs.Calls.{steppedAs, stepOf}
+use Rattle.towers_theory.specs.Calls.{stepOf}
+use Rattle.towers.specs.Structs.{towersAs, steppedAs}
 use Rattle.runs_theory.specs.Runs.{moveThen}
 use Rattle.runs.proofs.Outputs.{Going, begun, again, full, stopped, no-move, same-length as as-long}
 use borrow.Author.Needs.{needs}
@@ -14,7 +15,7 @@ use Rattle.runs.proofs.put_disks.Statement.{statement}
 use Rattle.runs.proofs.put_disks.Tie as tie
 
 abbrev Inv-loop : tie.InvT-loop
-Inv-loop out₀ at₀ i₀ out at i = Going stepOf at₀ out₀ at i out
+Inv-loop out₀ at₀ i₀ out at i = Going stepOf (towersAs at₀) out₀ (towersAs at) i out
 
 abbrev μ-loop : tie.MeasureT-loop
 μ-loop out₀ at₀ i₀ out at i = length out - i

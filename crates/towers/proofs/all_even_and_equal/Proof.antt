@@ -5,7 +5,7 @@ use native.Mathlib.Omega.{arith}
 use lib.ListN.{length, getD}
 use Rattle.gray_theory.specs.Directions.{allBelow}
 use Rattle.gray_theory.specs.DigitRanges.{tested-none, tested-more, tested-all}
-use Rattle.towers.specs.States.{common, evenAndEqual, allEvenAndEqual}
+use Rattle.towers_theory.specs.States.{common, evenAndEqual, allEvenAndEqual}
 use Rattle.towers.proofs.all_even_and_equal.Statement.{statement}
 use Rattle.towers.proofs.all_even_and_equal.Tie as tie
 

@@ -7,7 +7,7 @@ use lib.ListN.{length, getD}
 use Rattle.gray_theory.specs.Words.{even}
 use Rattle.gray_theory.specs.Directions.{allBelow}
 use Rattle.gray_theory.specs.DigitRanges.{tested-none, tested-more, tested-all}
-use Rattle.towers.specs.States.{allOdd}
+use Rattle.towers_theory.specs.States.{allOdd}
 use Rattle.towers.proofs.all_odd.Statement.{statement}
 use Rattle.towers.proofs.all_odd.Tie as tie
 

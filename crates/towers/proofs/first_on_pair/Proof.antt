@@ -3,7 +3,7 @@ use Prim.Native.Nat.{_-_, _≤_}
 use mathlib.Core.Path.{sym, ap, _∙_}
 use native.Mathlib.Omega.{arith}
 use lib.ListN.{getD}
-use Rattle.towers.specs.Choices.{sidePeg, onPair}
+use Rattle.towers_theory.specs.Choices.{sidePeg, onPair}
 use Rattle.towers.proofs.Games.{NoneBelow, none-first, none-more, found-here, found-none}
 use Rattle.towers.proofs.first_on_pair.Statement.{statement}
 use Rattle.towers.proofs.first_on_pair.Tie as tie

@@ -7,17 +7,22 @@ use native.Mathlib.Omega.{arith}
 use borrow.Author.Needs.{needs}
 use lib.ListN.{getD}
 use Rattle.gray_theory.specs.Words.{even}
-use Rattle.towers.specs.Calls.{pegAfter}
-use Rattle.towers.specs.InRange.{Arrays}
+use Rattle.towers_theory.specs.States.{Towers}
+use Rattle.towers_theory.specs.Calls.{pegAfter}
+use Rattle.towers_theory.specs.InRange.{Arrays}
+use Rattle.towers.specs.Structs.{towersAs}
 use Rattle.towers.proofs.Steps.{first-two, index-fits, turn-below, peg-within, disk-moved}
 use Rattle.towers.proofs.Towers.advance.Statement.{statement}
 use Rattle.towers.proofs.Towers.advance.Tie as tie
 
-lengths : (c : tie.Start) → Arrays (c .args .self)
+abbrev state : tie.Start → Towers
+state c = towersAs (c .args .self)
+
+lengths : (c : tie.Start) → Arrays (state c)
 lengths c = search needs
 
 fits : (c : tie.Start) → c .args .i < 48
-fits c = index-fits (c .args .self) (lengths c) (c .pre .0) (c .args .i) (c .pre .1)
+fits c = index-fits (state c) (lengths c) (c .pre .0) (c .args .i) (c .pre .1)
 
 array-read-m : tie.Need-array-read-m
 array-read-m c = search needs
@@ -46,7 +51,7 @@ array-write-downs c = fits (c .before .before .before .before .before)
 next-peg-requires : tie.Need-next-peg-requires
 next-peg-requires c κs =
     let start = c .before .before .before .before .before .before in
-    (fits start, peg-within (start .args .self) (lengths start) (start .pre .0) (start .args .i) (start .pre .1) (c .if1 .left))
+    (fits start, peg-within (state start) (lengths start) (start .pre .0) (start .args .i) (start .pre .1) (c .if1 .left))
 
 array-write-pegs : tie.Need-array-write-pegs
 array-write-pegs c = fits (c .before .before .before .before .before .before)
@@ -54,8 +59,8 @@ array-write-pegs c = fits (c .before .before .before .before .before .before)
 next-turn-requires : tie.Need-next-turn-requires
 next-turn-requires c κs =
     let start = c .before .before .before .before .before .before in
-    let two = first-two (start .args .self) (lengths start) (start .pre .0) in
-    (turn-below (start .args .self) (lengths start) (start .pre .0), omega arith)
+    let two = first-two (state start) (lengths start) (start .pre .0) in
+    (turn-below (state start) (lengths start) (start .pre .0), omega arith)
 
 cast-k : tie.Need-cast-k
 cast-k c = search needs
@@ -67,7 +72,7 @@ returns : tie.Need-returns
 returns c =
     let joined = c .before in
     let start = joined .before .before .before .before .before .before in
-    let s = start .args .self in
+    let s = state start in
     let m = getD (s .radices) 0 0 in
     let peg = getD (s .pegs) (start .args .i) 0 in
     let stored : joined .if1 .pegs ≡ cond (not (even m)) peg (pegAfter m (start .args .i) peg) =

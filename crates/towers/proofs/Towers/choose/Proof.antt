@@ -4,16 +4,21 @@ use mathlib.Core.Path.{sym}
 use native.Mathlib.Omega.{arith}
 use borrow.Author.Needs.{needs}
 use lib.Seq.{length-take-le}
-use Rattle.towers.specs.InRange.{Arrays}
+use Rattle.towers_theory.specs.States.{Towers}
+use Rattle.towers_theory.specs.InRange.{Arrays}
+use Rattle.towers.specs.Structs.{towersAs}
 use Rattle.towers.proofs.Steps.{first-two, count-fits, first-disk, pair-disks, chooses-on-pair, chooses-in-sweep, chooses-on-ring}
 use Rattle.towers.proofs.Towers.choose.Statement.{statement}
 use Rattle.towers.proofs.Towers.choose.Tie as tie
 
-lengths : (c : tie.Start) → Arrays (c .args .self)
+abbrev state : tie.Start → Towers
+state c = towersAs (c .args .self)
+
+lengths : (c : tie.Start) → Arrays (state c)
 lengths c = search needs
 
 fits : (c : tie.After-wide) → c .wide .result ≤ 48
-fits c = count-fits (c .before .args .self) (lengths (c .before)) (c .before .pre) _ (c .wide .ensures .0)
+fits c = count-fits (state (c .before)) (lengths (c .before)) (c .before .pre) _ (c .wide .ensures .0)
 
 wide-requires : tie.Need-wide-requires
 wide-requires c κs = search needs
@@ -45,28 +50,28 @@ first-on-pair-requires : tie.Need-first-on-pair-requires
 first-on-pair-requires c κs =
     let counted = c .before .before .before .before .before in
     let start = counted .before in
-    pair-disks (start .args .self) (lengths start) (start .pre) _ (counted .wide .ensures .0)
+    pair-disks (state start) (lengths start) (start .pre) _ (counted .wide .ensures .0)
 
 returns : tie.Need-returns
 returns c =
     let odd = c .before .before .before .before in
     let counted = odd .before .before in
     let start = counted .before in
-    chooses-on-pair (start .args .self) (lengths start) (start .pre) _ (counted .wide .ensures .0) _
+    chooses-on-pair (state start) (lengths start) (start .pre) _ (counted .wide .ensures .0) _
     (odd .if1 .taken)
     (c .first-on-pair .ensures)
 
 sub-if2 : tie.Need-sub-if2
 sub-if2 c =
     let start = c .before .before .before in
-    let two = first-two (start .args .self) (lengths start) (start .pre) in
+    let two = first-two (state start) (lengths start) (start .pre) in
     omega arith
 
 returns-2 : tie.Need-returns-2
 returns-2 c =
     let ring = c .before .before in
     let start = ring .before .before .before in
-    chooses-in-sweep (start .args .self) (lengths start) (start .pre) (ring .if1 .left) (omega arith)
+    chooses-in-sweep (state start) (lengths start) (start .pre) (ring .if1 .left) (omega arith)
 
 array-share-prefix-pegs : tie.Need-array-share-prefix-pegs
 array-share-prefix-pegs c =
@@ -83,7 +88,7 @@ first-elsewhere-requires c κs =
     let counted = c .before .before .before .before .before .before in
     let start = counted .before in
     let same = slice-aggregate-first-elsewhere c in
-    let some = first-disk (start .args .self) (lengths start) (start .pre) in
+    let some = first-disk (state start) (lengths start) (start .pre) in
     let n = counted .wide .ensures .0 in
     omega arith
 
@@ -93,7 +98,7 @@ returns-3 c =
     let ring = over .before .before in
     let counted = ring .before .before in
     let start = counted .before in
-    chooses-on-ring (start .args .self) (lengths start) (start .pre) _ (counted .wide .ensures .0) _
+    chooses-on-ring (state start) (lengths start) (start .pre) _ (counted .wide .ensures .0) _
     (ring .if1 .left)
     (omega arith)
     (c .first-elsewhere .ensures)

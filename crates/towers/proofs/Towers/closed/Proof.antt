@@ -1,6 +1,6 @@
 -- `towers::Towers::closed` meets its contract. Assumes nothing.
 use borrow.Author.Needs.{needs}
-use Rattle.towers.specs.Calls.{fresh}
+use Rattle.towers_theory.specs.Calls.{fresh}
 use Rattle.towers.proofs.Towers.closed.Statement.{statement}
 use Rattle.towers.proofs.Towers.closed.Tie as tie
 

@@ -13,11 +13,15 @@ use Rattle.gray_theory.specs.Words.{even}
 use Rattle.gray_theory.specs.Calls.{sizeCall}
 use Rattle.gray.specs.Enums.{countedAs}
 use Rattle.gray_theory.specs.Refusals.{accepted}
-use Rattle.towers.specs.States.{openCheck, survey}
-use Rattle.towers.specs.InRange.{Arrays}
+use Rattle.towers_theory.specs.States.{Towers, openCheck, survey}
+use Rattle.towers_theory.specs.InRange.{Arrays}
+use Rattle.towers.specs.Structs.{towersAs}
 use Rattle.towers.proofs.Ranges.{pegsPass, digits-over, radices-refused, not-open, counts-open, state-tested}
 use Rattle.towers.proofs.Towers.in_range.Statement.{statement}
 use Rattle.towers.proofs.Towers.in_range.Tie as tie
+
+abbrev state : tie.Start → Towers
+state c = towersAs (c .args .self)
 
 -- places on the way: where the disks are counted, the entry from there, and where the radices are accepted from later ones
 abbrev start : tie.After-wide → tie.Start
@@ -29,7 +33,7 @@ counted c = c .before .before .before .before .before
 abbrev told : tie.After-pegs → tie.After-enum-told
 told c = c .before .before .before .before .before .before
 
-lengths : (c : tie.Start) → Arrays (c .args .self)
+lengths : (c : tie.Start) → Arrays (state c)
 lengths c = search needs
 
 fits : (c : tie.After-wide) → c .wide .result ≤ 48
@@ -37,17 +41,17 @@ fits c = omega arith
 
 -- what is known once the radices are accepted, and once the counts are
 size-is : (c : tie.After-enum-told) →
-    sizeCall (take (counted c .wide .result) (start (counted c) .args .self .radices)) ≡ given (c .enum-told .given .0 .0)
+    sizeCall (take (counted c .wide .result) (state (start (counted c)) .radices)) ≡ given (c .enum-told .given .0 .0)
 size-is c = sym (c .before .before .size .ensures) ∙ ap countedAs (c .enum-told .given .1)
 
 counts-say : (c : tie.After-playable) →
-    isGiven (openCheck (survey (start (counted (c .before .before)) .args .self))) ≡ c .playable .result
+    isGiven (openCheck (survey (state (start (counted (c .before .before)))))) ≡ c .playable .result
 counts-say c =
     let here = counted (c .before .before) in
-    counts-open (start here .args .self) _ (here .wide .ensures .0) _ _ (size-is (c .before .before)) (c .playable .ensures)
+    counts-open (state (start here)) _ (here .wide .ensures .0) _ _ (size-is (c .before .before)) (c .playable .ensures)
 
 returns : tie.Need-returns
-returns c = digits-over (c .before .before .args .self) (c .if1 .taken)
+returns c = digits-over (state (c .before .before)) (c .if1 .taken)
 
 wide-requires : tie.Need-wide-requires
 wide-requires c κs = search needs
@@ -73,7 +77,7 @@ enum-told-2 c = search needs
 returns-2 : tie.Need-returns-2
 returns-2 c =
     let sized = c .before .before in
-    radices-refused _ _ (sized .before .before .before .wide .ensures .0) _
+    radices-refused (state (start (sized .before .before .before))) _ (sized .before .before .before .wide .ensures .0) _
     (sym (sized .size .ensures) ∙ ap countedAs (c .enum-told2 .given .1))
 
 array-share-prefix-radices-2 : tie.Need-array-share-prefix-radices-2
@@ -87,7 +91,7 @@ playable-requires c κs = accepted _ _ (size-is (c .before)) .some
 
 returns-3 : tie.Need-returns-3
 returns-3 c =
-    let s = start (counted (c .before .before .before)) .args .self in
+    let s = state (start (counted (c .before .before .before))) in
     not-open s (counts-say (c .before) ∙ not-true _ (c .if2 .taken))
 
 array-read-m : tie.Need-array-read-m
@@ -141,7 +145,7 @@ returns-4 c =
     let joined = tested .before in
     let pegs = joined .before .before .before .before .before in
     let here = counted (told pegs) in
-    let s = start here .args .self in
+    let s = state (start here) in
     let m = getD (s .radices) 0 0 in
     let turns : joined .if3 .turns ≡ cond (not (even m)) 2 m =
     ⊎-elim

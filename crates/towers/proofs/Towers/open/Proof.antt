@@ -9,6 +9,7 @@ use Rattle.gray_theory.specs.Calls.{sizeCall}
 use Rattle.gray.specs.Enums.{countedAs}
 use Rattle.gray_theory.specs.Refusals.{accepted}
 use Rattle.gray.specs.Passing.{passed-on}
+use Rattle.towers.specs.Structs.{towersAs}
 use Rattle.towers.proofs.Ranges.{opening-refused, array-room, array-some, counts-refused, opening-given}
 use Rattle.towers.proofs.Towers.open.Statement.{statement}
 use Rattle.towers.proofs.Towers.open.Tie as tie
@@ -34,7 +35,7 @@ returns : tie.Need-returns
 returns c =
     let told = c .before in
     let a = told .before .before .before .before .args in
-    opening-refused (a .self) (a .radices .now) _
+    opening-refused (towersAs (a .self)) (a .radices .now) _
     (passed-on _ _ _ _ _ (told .before .before .size .ensures) (told .enum-told2 .given .1) (c .number .ensures))
 
 reversed-requires : tie.Need-reversed-requires

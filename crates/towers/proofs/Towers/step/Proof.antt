@@ -4,13 +4,14 @@ use mathlib.Core.Bool.{true}
 use native.Mathlib.Omega.{arith}
 use borrow.Author.Needs.{needs}
 use borrow.Author.Tests.{not-true, not-false}
-use Rattle.towers.specs.States.{inRange}
+use Rattle.towers_theory.specs.States.{inRange}
+use Rattle.towers.specs.Structs.{towersAs}
 use Rattle.towers.proofs.Steps.{refused-faulty, walk-over, moves-disk}
 use Rattle.towers.proofs.Towers.step.Statement.{statement}
 use Rattle.towers.proofs.Towers.step.Tie as tie
 
 -- what is known once the state has passed its test
-ranged : (c : tie.Else1) → inRange (c .before .before .args .self) ≡ true
+ranged : (c : tie.Else1) → inRange (towersAs (c .before .before .args .self)) ≡ true
 ranged c = sym (c .before .in-range .ensures) ∙ not-false _ (c .if1 .left)
 
 in-range-requires : tie.Need-in-range-requires

@@ -14,13 +14,12 @@ use Rattle.gray_theory.specs.Words.{even}
 use Rattle.gray_theory.specs.Sizes.{radix-two}
 use Rattle.gray_theory.specs.DigitRanges.{digits-move-in-range}
 use Rattle.gray_theory.specs.Engines.{Event, Handed, refusedWith}
-use Rattle.towers.specs.declared.Towers.{Towers}
-use Rattle.towers.specs.States.{allOdd, common, survey, inRange}
-use Rattle.towers.specs.Choices.{pegOf, smallest, onPair, sweeping, isTop, elsewhere, chosenOnPair, chosenOnRing, chosen}
-use Rattle.towers.specs.Calls.{fresh, closedTowers, turnBy, clockwise, anticlockwise, pegAfter, pegsAfter, moveOf, moveBy, stepOf}
-use Rattle.towers.specs.Smallest.{smallest-says}
-use Rattle.towers.specs.Openings.{Openable}
-use Rattle.towers.specs.InRange.{Arrays, RangeSays, range-says, says-range, survey-openable, survey-long}
+use Rattle.towers_theory.specs.States.{Towers, allOdd, common, survey, inRange}
+use Rattle.towers_theory.specs.Choices.{pegOf, smallest, onPair, sweeping, isTop, elsewhere, chosenOnPair, chosenOnRing, chosen}
+use Rattle.towers_theory.specs.Calls.{fresh, closedTowers, turnBy, clockwise, anticlockwise, pegAfter, pegsAfter, moveOf, moveBy, stepOf}
+use Rattle.towers_theory.specs.Smallest.{smallest-says}
+use Rattle.towers_theory.specs.Openings.{Openable}
+use Rattle.towers_theory.specs.InRange.{Arrays, RangeSays, range-says, says-range, survey-openable, survey-long}
 
 -- ---- what a move leaves in range
 turn-kept : (odd : Bool) (m turn : ℕ)

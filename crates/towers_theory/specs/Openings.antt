@@ -9,9 +9,8 @@ use Rattle.gray_theory.specs.Answers.{Answer, given, refused, refusing, isGiven
 use Rattle.gray_theory.specs.Bools.{impossible}
 use Rattle.gray_theory.specs.Radices.{digits}
 use Rattle.gray_theory.specs.Refusals.{Limits, within-limits, limits-pass, passed}
-use Rattle.towers.specs.declared.Towers.{Towers}
-use Rattle.towers.specs.States.{allOdd, allEvenAndEqual, wrongCounts, openCheck}
-use Rattle.towers.specs.Calls.{fresh, openWith, openOf}
+use Rattle.towers_theory.specs.States.{Towers, allOdd, allEvenAndEqual, wrongCounts, openCheck}
+use Rattle.towers_theory.specs.Calls.{fresh, openWith, openOf}
 
 -- document 01, "Limits", and refusal 6
 pub record Openable (ms : List ℕ) : Type 0 where

@@ -14,8 +14,8 @@ use Rattle.gray_theory.specs.Words.{even}
 use Rattle.gray_theory.specs.Changes.{ruler}
 use Rattle.gray_theory.specs.Increments.{Increment, Increment.no-carry, Increment.carry, increment}
 use Rattle.gray_theory.specs.Rulers.{ruler-carry, ruler-no-carry, ruler-pos}
-use Rattle.towers.specs.Calls.{clockwise, anticlockwise, pegAfter}
-use Rattle.towers.specs.Stacks.{Stacked}
+use Rattle.towers_theory.specs.Calls.{clockwise, anticlockwise, pegAfter}
+use Rattle.towers_theory.specs.Stacks.{Stacked}
 
 -- the peg of a disk that has made d moves from peg 0, clockwise or the other way: m steps clockwise are one step back
 unfoldable pub turnedBy : Bool → ℕ → ℕ → ℕ

@@ -9,7 +9,18 @@ use Rattle.gray_theory.specs.Answers.{Answer, given, isGiven, refusing}
 use Rattle.gray_theory.specs.Radices.{ofRadices}
 use Rattle.gray_theory.specs.Words.{even}
 use Rattle.gray_theory.specs.Directions.{allBelow, digitsInRange}
-use Rattle.towers.specs.declared.Towers.{Towers}
+
+-- the state as document 01 lists it: the survey (radices and their number n), the setting (word), the turn, the directions (downs:
+-- down or not) and the pegs. For odd counts the turn says which pair of pegs is next, 0 for the left one; a disk's peg follows from
+-- its notch, and the list of pegs plays no part. For even ones the turn counts the moves of disk 1 in its sweep, and each disk's peg
+-- is stored.
+pub record Towers : Type 0 where
+  pub radices : List ℕ
+  pub n : ℕ
+  pub word : List ℕ
+  pub turn : ℕ
+  pub downs : List Bool
+  pub pegs : List ℕ
 
 -- ---- the survey
 unfoldable pub allOdd : List ℕ → Bool

@@ -15,14 +15,14 @@ use Rattle.gray_theory.specs.Changes.{ruler}
 use Rattle.gray_theory.specs.Sizes.{radix-two}
 use Rattle.gray_theory.specs.Increments.{Increment.no-carry, Increment.carry, increment}
 use Rattle.gray_theory.specs.Rulers.{ruler-no-carry, ruler-carry, ruler-pos}
-use Rattle.towers.specs.States.{allOdd, common, survey}
-use Rattle.towers.specs.Choices.{left, middle, right, sidePeg, pegOf, smallest, onPair, sweeping, isTop, elsewhere, chosenOnPair, chosenOnRing, chosen}
-use Rattle.towers.specs.Openings.{Openable}
-use Rattle.towers.specs.Stacks.{Stacked}
-use Rattle.towers.specs.Pairs.{sideAt, leftOut, pairs-stacked}
-use Rattle.towers.specs.Rings.{pegsAt, ringAside, rings-stacked}
-use Rattle.towers.specs.Smallest.{smallest-some, smallest-none, smallest-same, smallest-elsewhere-is-top}
-use Rattle.towers.specs.Canonical.{Form, Form.pairs, Form.ring, form, towersAt, pegAt, survey-at, peg-at}
+use Rattle.towers_theory.specs.States.{allOdd, common, survey}
+use Rattle.towers_theory.specs.Choices.{left, middle, right, sidePeg, pegOf, smallest, onPair, sweeping, isTop, elsewhere, chosenOnPair, chosenOnRing, chosen}
+use Rattle.towers_theory.specs.Openings.{Openable}
+use Rattle.towers_theory.specs.Stacks.{Stacked}
+use Rattle.towers_theory.specs.Pairs.{sideAt, leftOut, pairs-stacked}
+use Rattle.towers_theory.specs.Rings.{pegsAt, ringAside, rings-stacked}
+use Rattle.towers_theory.specs.Smallest.{smallest-some, smallest-none, smallest-same, smallest-elsewhere-is-top}
+use Rattle.towers_theory.specs.Canonical.{Form, Form.pairs, Form.ring, form, towersAt, pegAt, survey-at, peg-at}
 
 -- the peg that the smaller disks have come to
 abbrev pub aside : List ℕ → ℕ → ℕ

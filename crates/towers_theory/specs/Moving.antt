@@ -23,14 +23,13 @@ use Rattle.gray_theory.specs.Directions.{movedFrom}
 use Rattle.gray_theory.specs.Turns.{downsAt, Advances, walk-advances}
 use Rattle.gray_theory.specs.WalkArrays.{word-array-moved, down-array-moved, change-named}
 use Rattle.gray_theory.specs.Engines.{moved, ended}
-use Rattle.towers.specs.declared.Towers.{Towers}
-use Rattle.towers.specs.States.{allOdd, common, survey}
-use Rattle.towers.specs.Choices.{sidePeg, chosen}
-use Rattle.towers.specs.Calls.{turnAfter, pegAfter, pegsAfter, moveOf, moveBy, stepOf}
-use Rattle.towers.specs.Openings.{Openable}
-use Rattle.towers.specs.Rings.{pegsAt, length-pegsAt, pegsAt-moves}
-use Rattle.towers.specs.Canonical.{Form, Form.pairs, Form.ring, form, turnAt, storedAt, towersAt, pegAt, same-towers, survey-at, towers-in-range}
-use Rattle.towers.specs.Choosing.{chooses, chooses-none}
+use Rattle.towers_theory.specs.States.{Towers, allOdd, common, survey}
+use Rattle.towers_theory.specs.Choices.{sidePeg, chosen}
+use Rattle.towers_theory.specs.Calls.{turnAfter, pegAfter, pegsAfter, moveOf, moveBy, stepOf}
+use Rattle.towers_theory.specs.Openings.{Openable}
+use Rattle.towers_theory.specs.Rings.{pegsAt, length-pegsAt, pegsAt-moves}
+use Rattle.towers_theory.specs.Canonical.{Form, Form.pairs, Form.ring, form, turnAt, storedAt, towersAt, pegAt, same-towers, survey-at, towers-in-range}
+use Rattle.towers_theory.specs.Choosing.{chooses, chooses-none}
 
 -- ---- the turn
 module _ (ms : List ℕ) (o : Openable ms) (r : ℕ) where

@@ -6,8 +6,7 @@ use mathlib.Core.Option.{Option, none, some}
 use lib.Dec.{eqb, ltb}
 use lib.ListN.{getD}
 use Rattle.gray_theory.specs.Directions.{allBelow}
-use Rattle.towers.specs.declared.Towers.{Towers}
-use Rattle.towers.specs.States.{allOdd, common, survey}
+use Rattle.towers_theory.specs.States.{Towers, allOdd, common, survey}
 
 -- ---- pegs
 -- the three pegs of odd counts

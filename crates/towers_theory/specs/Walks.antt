@@ -15,15 +15,14 @@ use Rattle.gray_theory.specs.Rulers.{change-is-ruler}
 use Rattle.gray_theory.specs.Sizes.{size-pos, allFrom-weaker}
 use Rattle.gray_theory.specs.Turns.{Advances, walk-advances}
 use Rattle.gray_theory.specs.Engines.{Event, moved, ended, after, Names}
-use Rattle.towers.specs.declared.Towers.{Towers}
-use Rattle.towers.specs.States.{setting, inRange}
-use Rattle.towers.specs.Choices.{pegOf}
-use Rattle.towers.specs.Calls.{fresh, openOf, stepOf}
-use Rattle.towers.specs.Openings.{Openable, opens-exactly, opens-fresh}
-use Rattle.towers.specs.Game.{state, answer, Ends, Allowed, WalksTheList}
-use Rattle.towers.specs.Canonical.{towersAt, pegAt, setting-at, peg-at, fresh-is, towers-in-range}
-use Rattle.towers.specs.Choosing.{stacked}
-use Rattle.towers.specs.Moving.{rests, move-call, end-call}
+use Rattle.towers_theory.specs.States.{Towers, setting, inRange}
+use Rattle.towers_theory.specs.Choices.{pegOf}
+use Rattle.towers_theory.specs.Calls.{fresh, openOf, stepOf}
+use Rattle.towers_theory.specs.Openings.{Openable, opens-exactly, opens-fresh}
+use Rattle.towers_theory.specs.Game.{state, answer, Ends, Allowed, WalksTheList}
+use Rattle.towers_theory.specs.Canonical.{towersAt, pegAt, setting-at, peg-at, fresh-is, towers-in-range}
+use Rattle.towers_theory.specs.Choosing.{stacked}
+use Rattle.towers_theory.specs.Moving.{rests, move-call, end-call}
 
 -- the digit that an answer names, 0 where it names none
 abbrev digitOf : Answer Event → ℕ

@@ -8,10 +8,9 @@ use Rattle.gray_theory.specs.Answers.{Answer, given}
 use Rattle.gray_theory.specs.Radices.{size}
 use Rattle.gray_theory.specs.Words.{member}
 use Rattle.gray_theory.specs.Engines.{Event, moved, ended, after, answerOf, Names}
-use Rattle.towers.specs.declared.Towers.{Towers}
-use Rattle.towers.specs.States.{setting, inRange}
-use Rattle.towers.specs.Choices.{pegOf}
-use Rattle.towers.specs.Calls.{stepOf}
+use Rattle.towers_theory.specs.States.{Towers, setting, inRange}
+use Rattle.towers_theory.specs.Choices.{pegOf}
+use Rattle.towers_theory.specs.Calls.{stepOf}
 
 -- the state after t calls
 abbrev pub state : Towers → ℕ → Towers

@@ -10,7 +10,7 @@ use lib.Dec.{eqb}
 use Rattle.gray_theory.specs.Directions.{allBelow}
 use Rattle.gray_theory.specs.DigitRanges.{each-allBelow}
 use Rattle.gray_theory.specs.Bools.{impossible}
-use Rattle.towers.specs.Choices.{orElse, smallest}
+use Rattle.towers_theory.specs.Choices.{orElse, smallest}
 
 pub smallest-none : (n : ℕ) (test : ℕ → Bool) → ((k : ℕ) → k < n → test k ≡ false) → smallest n test ≡ none
 unfolding smallest

@@ -15,8 +15,8 @@ use Rattle.gray_theory.specs.Members.{wordAt}
 use Rattle.gray_theory.specs.Changes.{ruler}
 use Rattle.gray_theory.specs.Increments.{Increment.no-carry, Increment.carry, increment}
 use Rattle.gray_theory.specs.Rulers.{ruler-carry, ruler-no-carry, ruler-pos}
-use Rattle.towers.specs.Choices.{left, middle, right, sidePeg}
-use Rattle.towers.specs.Stacks.{Stacked}
+use Rattle.towers_theory.specs.Choices.{left, middle, right, sidePeg}
+use Rattle.towers_theory.specs.Stacks.{Stacked}
 
 -- the peg of the disk at index k at rank r, and the one that is not of the turn then
 abbrev pub sideAt : List ℕ → ℕ → ℕ → ℕ

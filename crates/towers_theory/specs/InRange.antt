@@ -13,9 +13,8 @@ use Rattle.gray_theory.specs.Bools.{impossible}
 use Rattle.gray_theory.specs.Words.{even}
 use Rattle.gray_theory.specs.Directions.{allBelow, digitsInRange}
 use Rattle.gray_theory.specs.DigitRanges.{allBelow-each, each-allBelow}
-use Rattle.towers.specs.declared.Towers.{Towers}
-use Rattle.towers.specs.States.{allOdd, common, evenAndEqual, allEvenAndEqual, openCheck, survey, turnInRange, pegsInRange, inRange}
-use Rattle.towers.specs.Openings.{Openable, openable}
+use Rattle.towers_theory.specs.States.{Towers, allOdd, common, evenAndEqual, allEvenAndEqual, openCheck, survey, turnInRange, pegsInRange, inRange}
+use Rattle.towers_theory.specs.Openings.{Openable, openable}
 
 -- the lengths that the arrays of a state have
 pub record Arrays (s : Towers) : Type 0 where

@@ -11,19 +11,8 @@ use Rattle.gray_theory.specs.Words.{even}
 use Rattle.gray_theory.specs.Arrays.{filled}
 use Rattle.gray_theory.specs.Directions.{wordMoved, downsMoved}
 use Rattle.gray_theory.specs.Engines.{Event, moved, ended, Handed, refusedWith}
-use Rattle.gray.specs.Enums.{openingAs, steppingAs}
-use Rattle.towers.specs.declared.Towers.{Towers}
-use Rattle.towers.specs.declared.Opened.{Opened}
-use Rattle.towers.specs.declared.Stepped.{Stepped}
-use Rattle.towers.specs.States.{allOdd, common, openCheck, survey, inRange}
-use Rattle.towers.specs.Choices.{sweeping, chosen}
-
--- what the calls return, in document 01's terms
-abbrev pub openedAs : Opened → Handed Towers Unit
-openedAs r = record { state = r .towers; answer = openingAs (r .answer) }
-
-abbrev pub steppedAs : Stepped → Handed Towers Event
-steppedAs r = record { state = r .towers; answer = steppingAs (r .answer) }
+use Rattle.towers_theory.specs.States.{Towers, allOdd, common, openCheck, survey, inRange}
+use Rattle.towers_theory.specs.Choices.{sweeping, chosen}
 
 -- ---- opening
 -- the fresh state of the n radices in an array: the setting all 0, directions all up, turn 0, all disks on peg 0

@@ -16,14 +16,13 @@ use Rattle.gray_theory.specs.Members.{wordAt, length-wordAt}
 use Rattle.gray_theory.specs.Sizes.{radix-two}
 use Rattle.gray_theory.specs.WalkArrays.{wordArray, downArray, take-word-array, word-array-start, down-array-start, arrays-in-range}
 use Rattle.gray_theory.specs.Filled.{take-filled, getD-filled, filled-replicate}
-use Rattle.towers.specs.declared.Towers.{Towers}
-use Rattle.towers.specs.States.{allOdd, common, evenAndEqual, allEvenAndEqual, survey, setting, inRange}
-use Rattle.towers.specs.Calls.{fresh}
-use Rattle.towers.specs.Choices.{pegOf}
-use Rattle.towers.specs.Openings.{Openable, opens}
-use Rattle.towers.specs.InRange.{says-range}
-use Rattle.towers.specs.Pairs.{sideAt}
-use Rattle.towers.specs.Rings.{pegsAt, length-pegsAt, pegsAt-start, pegsAt-bound}
+use Rattle.towers_theory.specs.States.{Towers, allOdd, common, evenAndEqual, allEvenAndEqual, survey, setting, inRange}
+use Rattle.towers_theory.specs.Calls.{fresh}
+use Rattle.towers_theory.specs.Choices.{pegOf}
+use Rattle.towers_theory.specs.Openings.{Openable, opens}
+use Rattle.towers_theory.specs.InRange.{says-range}
+use Rattle.towers_theory.specs.Pairs.{sideAt}
+use Rattle.towers_theory.specs.Rings.{pegsAt, length-pegsAt, pegsAt-start, pegsAt-bound}
 
 -- ---- the two forms
 -- radices that open: all odd, or n times the same
