@@ -16,11 +16,10 @@ use Rattle.gray_theory.specs.Arrays.{digitArray}
 use Rattle.gray_theory.specs.Filled.{digit-array}
 use Rattle.gray_theory.specs.Refusals.{accepted, radices-accepted, survey-accepted, survey-two, given-unless}
 use Rattle.gray_theory.specs.Engines.{refusedWith}
-use Rattle.ahead.specs.declared.Progress.{Progress}
-use Rattle.ahead.specs.declared.Walk.{Walk}
 use Rattle.gray_theory.specs.Capacities.{wrongCapacity}
-use Rattle.ahead.specs.States.{openCheck, survey, places, isPlace, counterInRange, entriesInRange, producerInRange, stepLimit, inRange}
-use Rattle.ahead.specs.Calls.{freshWith, fresh, openWith, openOf}
+use Rattle.ahead_theory.specs.States.{Walk, openCheck, survey, places, isPlace, counterInRange, entriesInRange, producerInRange, stepLimit, inRange}
+use Rattle.ahead_theory.specs.Calls.{freshWith, fresh, openWith, openOf}
+use Rattle.ahead.specs.declared.Progress.{Progress}
 use Rattle.ahead.specs.Stages.{assembled, Radices}
 
 -- ---- the counter's radices

@@ -11,19 +11,16 @@ use lib.Seq.{length-take-le}
 use Rattle.gray_theory.specs.Answers.{given}
 use Rattle.gray_theory.specs.Directions.{digitInRange}
 use Rattle.gray.specs.Advances.{advancedFrom, digit-advanced}
-use Rattle.gray_theory.specs.Engines.{ended, refusedWith}
+use Rattle.gray_theory.specs.Engines.{moved, ended, refusedWith}
 use Rattle.gray_theory.specs.DigitRanges.{allBelow-each}
 use Rattle.gray.specs.declared.Directed.{Directed}
-use Rattle.gray.specs.declared.Stepping.the-variants.{Moved}
-use Rattle.ahead.specs.declared.Producer.{Producer}
+use Rattle.ahead_theory.specs.States.{Producer, Walk, survey, places, inRange}
+use Rattle.ahead_theory.specs.Work.{countAt, radixAt, runOut, done, work}
+use Rattle.ahead_theory.specs.Calls.{twice, course, removing, dequeued, endOf, moveOf, stepBy, stepOf}
+use Rattle.ahead_theory.specs.InRange.{place-two, producer-says, runs-out, carries-on, appends-one, stays-full, count-grows, Ranged, survey-openable, survey-long, Reached, reached-more}
+use Rattle.ahead_theory.specs.Kept.{goes-faulty, goes-over, goes-dry, goes-removing, removes-last, removes-digit}
 use Rattle.ahead.specs.declared.Progress.{Progress}
-use Rattle.ahead.specs.declared.Walk.{Walk}
-use Rattle.ahead.specs.States.{survey, places, inRange}
-use Rattle.ahead.specs.Work.{countAt, radixAt, runOut, done, work}
-use Rattle.ahead.specs.Calls.{steppedAs, twice, course, removing, dequeued, endOf, moveOf, stepBy, stepOf}
 use Rattle.ahead.specs.Stages.{assembled, Workable, Movable}
-use Rattle.ahead.specs.InRange.{place-two, producer-says, runs-out, carries-on, appends-one, stays-full, count-grows, Ranged, survey-openable, survey-long, Reached, reached-more}
-use Rattle.ahead.specs.Kept.{goes-faulty, goes-over, goes-dry, goes-removing, removes-last, removes-digit}
 
 -- ---- work
 module _ (radices : List ℕ) (n c : ℕ) (counter queue : List ℕ) (at : Progress) (ok : Workable radices n c counter queue at) where
@@ -109,9 +106,8 @@ module _ (w : Walk) (k : ℕ) (ok : Movable w k) (place : ℕ) (wide : place ≡
 
   pub digit-moved : (to : Directed) (p : Producer)
       → to ≡ advancedFrom (getD (w .radices) (place - 1) 0) (getD (w .word) (place - 1) 0) (getD (w .downs) (place - 1) false)
-      → steppedAs
-      (record {
-        walk =
+      → record {
+        state =
             record {
               radices = w .radices;
               n = w .n;
@@ -122,8 +118,8 @@ module _ (w : Walk) (k : ℕ) (ok : Movable w k) (place : ℕ) (wide : place ≡
               producer = p;
               moves = w .moves + 1;
             };
-        answer = Moved k (getD (w .downs) (place - 1) false);
-      })
+        answer = given (moved (record { digit = k; down = getD (w .downs) (place - 1) false }));
+      }
       ≡ moveOf w k p
   unfolding moveOf
   digit-moved to p e =

@@ -6,10 +6,8 @@ use mathlib.Core.List.{List}
 use lib.ListN.{length, take}
 use Rattle.gray_theory.specs.Radices.{allFrom}
 use Rattle.gray_theory.specs.Directions.{digitsInRange}
-use Rattle.ahead.specs.declared.Producer.{Producer}
+use Rattle.ahead_theory.specs.States.{Producer, Walk, producerInRange}
 use Rattle.ahead.specs.declared.Progress.{Progress}
-use Rattle.ahead.specs.declared.Walk.{Walk}
-use Rattle.ahead.specs.States.{producerInRange}
 
 -- a producer made of its arrays and its numbers
 abbrev pub assembled : List ℕ → List ℕ → Progress → Producer

@@ -7,7 +7,8 @@ use towers::Towers;
 ghost use mathlib.Core.Path.{_≡_};
 ghost use Rattle.gray_theory.specs.Answers.{numberOf, Wrote};
 ghost use Rattle.gray.specs.Enums.{writtenAs, openingAs};
-ghost use Rattle.ahead.specs.Calls.{stepOf as walkStep};
+ghost use Rattle.ahead_theory.specs.Calls.{stepOf as walkStep};
+ghost use Rattle.ahead.specs.Structs.{walkAs};
 ghost use Rattle.towers_theory.specs.Calls.{stepOf as diskStep};
 ghost use Rattle.towers.specs.Structs.{towersAs};
 ghost use Rattle.runs_theory.specs.Runs.{walkMovesCall, diskMovesCall};
@@ -25,7 +26,7 @@ fn number(opening: Opening) -> u8
 
 // Steps a walk until the output is full or a call does not move: one byte a move; the moves written.
 fn put_walk(walk: Walk, out: &mut [u8]) -> usize
-    ensures { λ r. ⌜ Stepped walkStep walk r (now (out .entry)) (now (out .exit)) ⌝ }
+    ensures { λ r. ⌜ Stepped walkStep (walkAs walk) r (now (out .entry)) (now (out .exit)) ⌝ }
 {
     let mut at = walk;
     let mut i = 0;

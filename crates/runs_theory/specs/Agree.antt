@@ -12,9 +12,9 @@ use Rattle.gray_theory.specs.Changes.{change}
 use Rattle.gray_theory.specs.Radices.{digits, size, allFrom}
 use Rattle.gray_theory.specs.Sizes.{allFrom-weaker, size-pos}
 use Rattle.gray_theory.specs.Engines.{Event, moved, Handed, after, answerOf}
-use Rattle.ahead.specs.Calls as ahead
-use Rattle.ahead.specs.Openings as ahead-opens
-use Rattle.ahead.specs.WorkAhead.{fresh-walks-work-ahead}
+use Rattle.ahead_theory.specs.Calls as ahead
+use Rattle.ahead_theory.specs.Openings as ahead-opens
+use Rattle.ahead_theory.specs.WorkAhead.{fresh-walks-work-ahead}
 use Rattle.towers_theory.specs.Calls as towers
 use Rattle.towers_theory.specs.Openings as towers-opens
 use Rattle.towers_theory.specs.Walks.{disks-walk-the-list}

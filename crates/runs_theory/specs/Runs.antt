@@ -5,7 +5,7 @@ use Rattle.gray_theory.specs.Answers.{Answer, given, refused}
 use Rattle.gray_theory.specs.MoveBytes.{moveByte}
 use Rattle.gray_theory.specs.Changes.{change}
 use Rattle.gray_theory.specs.Engines.{Event, moved, ended, Handed}
-use Rattle.ahead.specs.Calls as ahead
+use Rattle.ahead_theory.specs.Calls as ahead
 use Rattle.towers_theory.specs.Calls as towers
 
 -- the byte of a call that moves, and the bytes of the calls after it; none where it does not move

@@ -15,11 +15,10 @@ use Rattle.gray_theory.specs.Calls.{sizeCall, rankCall}
 use Rattle.gray_theory.specs.Directions.{allBelow}
 use Rattle.gray_theory.specs.MoveBytes.{moveByte}
 use Rattle.gray_theory.specs.Engines.{Event, moved, ended, after, answerOf}
-use Rattle.ahead.specs.declared.Walk.{Walk}
-use Rattle.ahead.specs.States.{setting, producerInRange, inRange}
-use Rattle.ahead.specs.Work.{Work, carry, append, idle, kind, done}
-use Rattle.ahead.specs.Calls.{fresh, closedWalk, openOf, twice, course, dequeued, endOf, moveOf, stepOf}
-use Rattle.ahead.specs.Runs.{state, answer, events as eventsOf}
+use Rattle.ahead_theory.specs.States.{Walk, setting, producerInRange, inRange}
+use Rattle.ahead_theory.specs.Work.{Work, carry, append, idle, kind, done}
+use Rattle.ahead_theory.specs.Calls.{fresh, closedWalk, openOf, twice, course, dequeued, endOf, moveOf, stepOf}
+use Rattle.ahead_theory.specs.Runs.{state, answer, events as eventsOf}
 use Rattle.towers_theory.specs.States.{Towers, allOdd, allEvenAndEqual, setting as diskSetting, inRange as disksInRange}
 use Rattle.towers_theory.specs.Choices.{pegOf, smallest, chosen}
 use Rattle.towers_theory.specs.Calls.{closedTowers, fresh as freshDisks, openOf as openDisks, moveOf as moveDisk, stepOf as stepDisks}

@@ -1,5 +1,5 @@
 -- All that the program `walk` prints for an input (document 01), and document 01's example in full. Its moves are the list's: that the
--- buffered engine makes just these is `fresh-walks-work-ahead` of `ahead`.
+-- buffered engine makes just these is `fresh-walks-work-ahead` of `ahead_theory`.
 use Prim.Native.Nat.{ℕ, zero, suc, _-_}
 use mathlib.Core.Path.{_≡_, refl}
 use mathlib.Core.Bool.{cond}

@@ -8,7 +8,7 @@ use lib.ListN.{length, getD, take}
 use lib.Seq.{length-take-le}
 use Rattle.gray_theory.specs.Directions.{allBelow}
 use Rattle.gray_theory.specs.DigitRanges.{tested-none, tested-more, tested-all}
-use Rattle.ahead.specs.States.{places}
+use Rattle.ahead_theory.specs.States.{places}
 use Rattle.ahead.proofs.Ranges.{radix-place, last-place}
 use Rattle.ahead.proofs.counter_in_range.Statement.{statement}
 use Rattle.ahead.proofs.counter_in_range.Tie as tie

@@ -6,7 +6,7 @@ use native.Mathlib.Omega.{arith}
 use lib.Dec.{leb}
 use lib.ListN.{length, getD, take}
 use Rattle.gray_theory.specs.Directions.{allBelow}
-use Rattle.ahead.specs.States.{counterInRange}
+use Rattle.ahead_theory.specs.States.{counterInRange}
 use Rattle.ahead.specs.Stages.{Radices}
 use Rattle.ahead.proofs.Ranges.{queue-over, producer-tested}
 use borrow.Author.Needs.{needs}

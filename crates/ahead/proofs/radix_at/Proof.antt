@@ -4,7 +4,7 @@ use mathlib.Core.Path.{_≡_, sym, ap, _∙_}
 use native.Mathlib.Omega.{arith}
 use borrow.Author.Needs.{needs}
 use lib.ListN.{length, getD, take}
-use Rattle.ahead.specs.States.{places}
+use Rattle.ahead_theory.specs.States.{places}
 use Rattle.ahead.proofs.Ranges.{radix-place, last-place}
 use Rattle.ahead.proofs.radix_at.Statement.{statement}
 use Rattle.ahead.proofs.radix_at.Tie as tie

@@ -5,7 +5,7 @@ use mathlib.Core.Bool.{Bool, _&&_}
 use native.Mathlib.Nat.{add-zero}
 use borrow.Author.Tests.{lt-ltb, le-ltb}
 use lib.Dec.{leb, ltb}
-use Rattle.ahead.specs.States.{stepLimit}
+use Rattle.ahead_theory.specs.States.{stepLimit}
 use borrow.Author.Needs.{needs}
 use Rattle.ahead.proofs.within.Statement.{statement}
 use Rattle.ahead.proofs.within.Tie as tie

@@ -6,7 +6,8 @@ use mathlib.Core.List.{List}
 use lib.ListN.{length, length-set}
 use Rattle.gray_theory.specs.Engines.{Handed, Event}
 use Rattle.gray.specs.Enums.{steppingAs}
-use Rattle.ahead.specs.Calls.{steppedAs, stepOf}
+use Rattle.ahead_theory.specs.Calls.{stepOf}
+use Rattle.ahead.specs.Structs.{walkAs, steppedAs}
 use Rattle.runs_theory.specs.Runs.{moveThen}
 use Rattle.runs.proofs.Outputs.{Going, begun, again, full, stopped, no-move, same-length as as-long}
 use borrow.Author.Needs.{needs}
@@ -14,7 +15,7 @@ use Rattle.runs.proofs.put_walk.Statement.{statement}
 use Rattle.runs.proofs.put_walk.Tie as tie
 
 abbrev Inv-loop : tie.InvT-loop
-Inv-loop out₀ at₀ i₀ out at i = Going stepOf at₀ out₀ at i out
+Inv-loop out₀ at₀ i₀ out at i = Going stepOf (walkAs at₀) out₀ (walkAs at) i out
 
 abbrev μ-loop : tie.MeasureT-loop
 μ-loop out₀ at₀ i₀ out at i = length out - i

@@ -4,8 +4,9 @@ use mathlib.Core.Path.{_≡_, sym, ap, _∙_}
 use Rattle.gray_theory.specs.Answers.{refused, numberOf}
 use Rattle.gray_theory.specs.Engines.{Handed}
 use Rattle.gray.specs.Enums.{openingAs}
-use Rattle.ahead.specs.declared.Walk.{Walk}
-use Rattle.ahead.specs.Calls.{closedWalk, openedAs, openOf, stepOf}
+use Rattle.ahead_theory.specs.States.{Walk}
+use Rattle.ahead_theory.specs.Calls.{closedWalk, openOf, stepOf}
+use Rattle.ahead.specs.Structs.{openedAs}
 use Rattle.runs_theory.specs.Runs.{walkMovesCall}
 use Rattle.runs.proofs.Outputs.{run-refused, run-stepped}
 use borrow.Author.Needs.{needs}

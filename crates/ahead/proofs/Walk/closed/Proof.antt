@@ -1,5 +1,5 @@
 -- `ahead::Walk::closed` meets its contract. Assumes nothing.
-use Rattle.ahead.specs.Calls.{fresh}
+use Rattle.ahead_theory.specs.Calls.{fresh}
 use borrow.Author.Needs.{needs}
 use Rattle.ahead.proofs.Walk.closed.Statement.{statement}
 use Rattle.ahead.proofs.Walk.closed.Tie as tie

@@ -1,6 +1,6 @@
 -- `ahead::Walk::end` meets its contract. Assumes nothing.
 use mathlib.Core.Path.{refl}
-use Rattle.ahead.specs.Calls.{endOf}
+use Rattle.ahead_theory.specs.Calls.{endOf}
 use Rattle.ahead.proofs.Walk.end.Statement.{statement}
 use Rattle.ahead.proofs.Walk.end.Tie as tie
 

@@ -12,10 +12,11 @@ use Rattle.gray.specs.Enums.{countedAs}
 use Rattle.gray_theory.specs.Directions.{digitsInRange}
 use Rattle.gray_theory.specs.DigitRanges.{digits-tested}
 use Rattle.gray_theory.specs.Refusals.{survey-refused, survey-size}
-use Rattle.ahead.specs.States.{survey}
-use Rattle.ahead.specs.Stages.{Radices}
-use Rattle.ahead.specs.InRange.{Arrays}
+use Rattle.ahead_theory.specs.States.{survey}
 use Rattle.gray_theory.specs.Capacities.{right-capacity}
+use Rattle.ahead_theory.specs.InRange.{Arrays}
+use Rattle.ahead.specs.Structs.{walkAs}
+use Rattle.ahead.specs.Stages.{Radices}
 use Rattle.ahead.proofs.Ranges.{accepted-radices, digits-over, capacity-tested, not-open, state-tested}
 use Rattle.ahead.proofs.Walk.in_range.Statement.{statement}
 use Rattle.ahead.proofs.Walk.in_range.Tie as tie
@@ -30,24 +31,24 @@ start c = counted c .before .before
 abbrev passed : tie.After-queue → tie.Else2
 passed c = c .before .before .before .before .before
 
-lengths : (c : tie.Start) → Arrays (c .args .self)
+lengths : (c : tie.Start) → Arrays (walkAs (c .args .self))
 lengths c = search needs
 
 -- what `size` says of the state's radices; what is known once they are accepted
 size-says : (c : tie.After-size) →
-    sizeCall (survey (c .before .before .before .before .before .args .self)) ≡ countedAs (c .size .result)
+    sizeCall (survey (walkAs (c .before .before .before .before .before .args .self))) ≡ countedAs (c .size .result)
 size-says c =
     let wide = c .before .before .before in
     ap (λ k. sizeCall (take k (wide .before .before .args .self .radices))) (sym (wide .wide .ensures .0)) ∙ sym (c .size .ensures)
 
-size-is : (c : tie.After-known-told) → sizeCall (survey (start c .args .self)) ≡ given (c .before .counted .given .0 .0)
+size-is : (c : tie.After-known-told) → sizeCall (survey (walkAs (start c .args .self))) ≡ given (c .before .counted .given .0 .0)
 size-is c = size-says (c .before .before .before) ∙ ap countedAs (c .before .counted .given .1)
 
 radices-fit : (c : tie.After-known-told) → Radices (start c .args .self .radices) (start c .args .self .n)
 radices-fit c = accepted-radices _ _ _ (lengths (start c) .radices) (counted c .before .if1 .left) (size-is c)
 
 returns : tie.Need-returns
-returns c = digits-over (c .before .args .self) (c .if1 .taken)
+returns c = digits-over (walkAs (c .before .args .self)) (c .if1 .taken)
 
 wide-requires : tie.Need-wide-requires
 wide-requires c κs = search needs
@@ -81,12 +82,12 @@ enum-told c = search needs
 returns-2 : tie.Need-returns-2
 returns-2 c =
     let sized = c .before .before in
-    let w = sized .before .before .before .before .before .args .self in
+    let w = walkAs (sized .before .before .before .before .before .args .self) in
     not-open w (survey-refused (survey w) _ _ (size-says sized ∙ ap countedAs (c .enum-told .given .1)))
 
 returns-3 : tie.Need-returns-3
 returns-3 c =
-    let w = start (c .before) .args .self in
+    let w = walkAs (start (c .before) .args .self) in
     not-open w (capacity-tested (survey w) (w .capacity) _ (size-is (c .before)) true (c .if2 .taken))
 
 array-share-prefix-radices-2 : tie.Need-array-share-prefix-radices-2
@@ -138,7 +139,7 @@ returns-4 c =
     let at = passed (lent queue) in
     let told = at .before in
     let wide = counted told in
-    let w = start told .args .self in
+    let w = walkAs (start told .args .self) in
     let tested =
     queue .before .before .before .digits-in-range .ensures
     ∙ digits-tested (wide .wide .result) (w .radices) (w .word) (w .downs) (radices-hold wide) (word-holds wide) (downs-hold wide)

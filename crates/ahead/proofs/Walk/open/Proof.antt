@@ -8,6 +8,7 @@ use Rattle.gray.specs.Enums.{countedAs}
 use Rattle.gray_theory.specs.Refusals.{accepted}
 use Rattle.gray.specs.Passing.{passed-on}
 use Rattle.gray_theory.specs.Capacities.{right-capacity}
+use Rattle.ahead.specs.Structs.{walkAs}
 use Rattle.ahead.proofs.Ranges.{opening-refused, capacity-refused, opening-given}
 use borrow.Author.Needs.{needs}
 use Rattle.ahead.proofs.Walk.open.Statement.{statement}
@@ -34,14 +35,14 @@ returns : tie.Need-returns
 returns c =
     let told = c .before in
     let a = told .before .before .before .before .args in
-    opening-refused (a .self) (a .radices .now) (a .capacity) _
+    opening-refused (walkAs (a .self)) (a .radices .now) (a .capacity) _
     (passed-on _ _ _ _ _ (told .before .before .size .ensures) (told .enum-told2 .given .1) (c .number .ensures))
 
 returns-2 : tie.Need-returns-2
 returns-2 c =
     let told = c .before in
     let a = told .before .before .before .before .args in
-    capacity-refused (a .self) (a .radices .now) (a .capacity) _ (size-is told) (c .if1 .taken)
+    capacity-refused (walkAs (a .self)) (a .radices .now) (a .capacity) _ (size-is told) (c .if1 .taken)
 
 reversed-requires : tie.Need-reversed-requires
 reversed-requires c κs = search needs
@@ -65,7 +66,7 @@ returns-3 c =
     let made = c .before in
     let told = made .before .before in
     let a = told .before .before .before .before .args in
-    opening-given (a .self) (a .radices .now) (a .capacity) _ _ _
+    opening-given (walkAs (a .self)) (a .radices .now) (a .capacity) _ (walkAs (c .fresh .result)) _
     (size-is told)
     (made .before .if1 .left)
     (made .reversed .ensures)

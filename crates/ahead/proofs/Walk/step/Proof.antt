@@ -6,13 +6,12 @@ use mathlib.Core.Bool.{true}
 use borrow.Author.Needs.{needs}
 use borrow.Author.Tests.{not-true, not-false}
 use lib.ListN.{length}
-use Rattle.ahead.specs.declared.Producer.{Producer}
-use Rattle.ahead.specs.declared.Walk.{Walk}
-use Rattle.ahead.specs.States.{survey, inRange}
-use Rattle.ahead.specs.Work.{work}
-use Rattle.ahead.specs.Calls.{once, twice}
+use Rattle.ahead_theory.specs.States.{Producer, Walk, survey, inRange}
+use Rattle.ahead_theory.specs.Work.{work}
+use Rattle.ahead_theory.specs.Calls.{once, twice}
+use Rattle.ahead_theory.specs.InRange.{Ranged, range-says, Reached, reached-none}
+use Rattle.ahead.specs.Structs.{walkAs}
 use Rattle.ahead.specs.Stages.{assembled}
-use Rattle.ahead.specs.InRange.{Ranged, range-says, Reached, reached-none}
 use Rattle.ahead.proofs.Steps.{refused-faulty, already-over, reached-by, workable, movable, refused-dry, ends, moves-digit}
 use Rattle.ahead.proofs.Walk.step.Statement.{statement}
 use Rattle.ahead.proofs.Walk.step.Tie as tie
@@ -24,7 +23,7 @@ in-range-requires c κs = search needs
 returns : tie.Need-returns
 returns c = refused-faulty _ (sym (c .before .in-range .ensures) ∙ not-true _ (c .if1 .taken))
 
-tested : (c : tie.Else1) → inRange (c .before .before .args .self) ≡ true
+tested : (c : tie.Else1) → inRange (walkAs (c .before .before .args .self)) ≡ true
 tested c = sym (c .before .in-range .ensures) ∙ not-false _ (c .if1 .left)
 
 returns-2 : tie.Need-returns-2
@@ -44,7 +43,7 @@ abbrev going : tie.After-queue2 → tie.Else2
 going c = c .before .before .before .before .before .before .before
 
 abbrev walk : tie.After-queue2 → Walk
-walk c = going c .before .before .before .args .self
+walk c = walkAs (going c .before .before .before .args .self)
 
 in-parts : (c : tie.After-queue2) → Ranged (walk c)
 in-parts c = range-says (walk c) (tested (going c .before))

@@ -12,10 +12,9 @@ use Rattle.gray_theory.specs.Engines.{refusedWith}
 use Rattle.gray_theory.specs.Radices.{size}
 use Rattle.gray_theory.specs.DigitRanges.{digits-move-in-range}
 use Rattle.gray_theory.specs.Sizes.{radix-two}
-use Rattle.ahead.specs.declared.Walk.{Walk}
-use Rattle.ahead.specs.States.{survey, producerInRange, stepLimit, inRange}
-use Rattle.ahead.specs.Calls.{fresh, closedWalk, twice, faulty, over, dry, removing, course, dequeued, endOf, moveOf, stepBy, stepOf}
-use Rattle.ahead.specs.InRange.{Arrays, producer-says, dequeued-long, dequeued-in-range, range-says, says-range, survey-openable, survey-long, reached-twice}
+use Rattle.ahead_theory.specs.States.{Walk, survey, producerInRange, stepLimit, inRange}
+use Rattle.ahead_theory.specs.Calls.{fresh, closedWalk, twice, faulty, over, dry, removing, course, dequeued, endOf, moveOf, stepBy, stepOf}
+use Rattle.ahead_theory.specs.InRange.{Arrays, producer-says, dequeued-long, dequeued-in-range, range-says, says-range, survey-openable, survey-long, reached-twice}
 
 -- ---- calls
 -- the tests of a call, in their order

@@ -4,10 +4,9 @@ use mathlib.Core.Path.{_≡_}
 use mathlib.Core.List.{List, [], _∷_, _++_}
 use Rattle.gray_theory.specs.Answers.{Answer, refused}
 use Rattle.gray_theory.specs.Engines.{Event, after, answerOf}
-use Rattle.ahead.specs.declared.Walk.{Walk}
-use Rattle.ahead.specs.States.{survey}
-use Rattle.ahead.specs.Work.{Work, carry, append, idle, kind}
-use Rattle.ahead.specs.Calls.{Course, faulty, over, dry, removing, course, once, stepOf}
+use Rattle.ahead_theory.specs.States.{Walk, survey}
+use Rattle.ahead_theory.specs.Work.{Work, carry, append, idle, kind}
+use Rattle.ahead_theory.specs.Calls.{Course, faulty, over, dry, removing, course, once, stepOf}
 
 -- the state after t calls
 abbrev pub state : Walk → ℕ → Walk

@@ -9,9 +9,8 @@ use Rattle.gray_theory.specs.Bools.{impossible}
 use Rattle.gray_theory.specs.Radices.{digits}
 use Rattle.gray_theory.specs.Capacities.{Openable, within-openable, openable-passes}
 use Rattle.gray_theory.specs.Answers.{isGiven}
-use Rattle.ahead.specs.declared.Walk.{Walk}
-use Rattle.ahead.specs.States.{openCheck}
-use Rattle.ahead.specs.Calls.{fresh, openWith, openOf}
+use Rattle.ahead_theory.specs.States.{Walk, openCheck}
+use Rattle.ahead_theory.specs.Calls.{fresh, openWith, openOf}
 
 -- ---- the checks
 pub openable : (ms : List ℕ) (c : ℕ) → isGiven (openCheck ms c) ≡ true → Openable ms c

@@ -7,11 +7,11 @@ use mathlib.Core.List.{List, [], _∷_, _++_, append-assoc}
 use Rattle.gray_theory.specs.Radices.{allFrom}
 use Rattle.gray_theory.specs.Costs.{cost}
 use Rattle.gray_theory.specs.Bounds.{entry-costs-ruler, cost-below-double}
-use Rattle.ahead.specs.Work.{Work, carry, append, idle}
-use Rattle.ahead.specs.Runs.{useful, appends}
-use Rattle.ahead.specs.Demand.{Finished}
-use Rattle.ahead.specs.Entries.{cost-zero}
-use Rattle.ahead.specs.Positions.{Worked, Worked.carried, Worked.appended, Worked.idled, stepsAt, one}
+use Rattle.ahead_theory.specs.Work.{Work, carry, append, idle}
+use Rattle.ahead_theory.specs.Runs.{useful, appends}
+use Rattle.ahead_theory.specs.Demand.{Finished}
+use Rattle.ahead_theory.specs.Entries.{cost-zero}
+use Rattle.ahead_theory.specs.Positions.{Worked, Worked.carried, Worked.appended, Worked.idled, stepsAt, one}
 
 -- ---- one event more
 useful-more : (es : List Work) (e : Work) → useful (es ++ (e ∷ [])) ≡ useful es + useful (e ∷ [])

@@ -15,14 +15,12 @@ use Rattle.gray_theory.specs.Changes.{ruler}
 use Rattle.gray_theory.specs.Arrays.{filled}
 use Rattle.gray_theory.specs.WalkArrays.{wordArray, downArray}
 use Rattle.gray_theory.specs.Filled.{getD-filled, set-filled, filled-append}
-use Rattle.ahead.specs.declared.Producer.{Producer}
-use Rattle.ahead.specs.declared.Walk.{Walk}
-use Rattle.ahead.specs.States.{places}
-use Rattle.ahead.specs.Work.{Work, carry, append, idle, countAt, radixAt, runOut, kind, done}
-use Rattle.ahead.specs.InRange.{last-is-two, carries-on as kind-carry, appends-one as kind-append, stays-full as kind-idle}
-use Rattle.ahead.specs.Counters.{mixedDigits, cleared, length-mixedDigits, length-cleared, cleared-at, carry-test, carry-clears, append-counts, ruler-most, ruler-places, allFrom-places, length-places}
+use Rattle.ahead_theory.specs.States.{Producer, Walk, places}
+use Rattle.ahead_theory.specs.Work.{Work, carry, append, idle, countAt, radixAt, runOut, kind, done}
+use Rattle.ahead_theory.specs.InRange.{last-is-two, carries-on as kind-carry, appends-one as kind-append, stays-full as kind-idle}
+use Rattle.ahead_theory.specs.Counters.{mixedDigits, cleared, length-mixedDigits, length-cleared, cleared-at, carry-test, carry-clears, append-counts, ruler-most, ruler-places, allFrom-places, length-places}
 use Rattle.gray_theory.specs.Capacities.{Openable}
-use Rattle.ahead.specs.Positions.{Position, Worked, Worked.carried, Worked.appended, Worked.idled, stepsAt, one, gained, work-steps}
+use Rattle.ahead_theory.specs.Positions.{Position, Worked, Worked.carried, Worked.appended, Worked.idled, stepsAt, one, gained, work-steps}
 
 -- ---- the entries queued
 -- entries t + 1 .. t + k

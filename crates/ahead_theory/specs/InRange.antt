@@ -16,14 +16,12 @@ use Rattle.gray_theory.specs.Directions.{digitsInRange}
 use Rattle.gray_theory.specs.Radices.{allFrom, size}
 use Rattle.gray_theory.specs.Sizes.{radix-two}
 use Rattle.gray_theory.specs.DigitRanges.{allBelow-each, each-allBelow}
-use Rattle.ahead.specs.declared.Producer.{Producer}
-use Rattle.ahead.specs.declared.Walk.{Walk}
-use Rattle.ahead.specs.States.{survey, openCheck, places, isPlace, counterInRange, entriesInRange, producerInRange, stepLimit, inRange}
-use Rattle.ahead.specs.Work.{Work, carry, append, idle, countAt, radixAt, runOut, kind, done, work}
-use Rattle.ahead.specs.Counters.{allFrom-places, length-places}
+use Rattle.ahead_theory.specs.States.{Producer, Walk, survey, openCheck, places, isPlace, counterInRange, entriesInRange, producerInRange, stepLimit, inRange}
+use Rattle.ahead_theory.specs.Work.{Work, carry, append, idle, countAt, radixAt, runOut, kind, done, work}
+use Rattle.ahead_theory.specs.Counters.{allFrom-places, length-places}
 use Rattle.gray_theory.specs.Capacities.{Openable}
-use Rattle.ahead.specs.Openings.{openable}
-use Rattle.ahead.specs.Calls.{once, twice, dequeued}
+use Rattle.ahead_theory.specs.Openings.{openable}
+use Rattle.ahead_theory.specs.Calls.{once, twice, dequeued}
 
 -- the lengths that the arrays of a state have
 pub record Arrays (w : Walk) : Type 0 where

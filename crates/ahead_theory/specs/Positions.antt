@@ -16,9 +16,9 @@ use Rattle.gray_theory.specs.Costs.{cost}
 use Rattle.gray_theory.specs.Bounds.{entry-costs-ruler, cost-below-double, cost-burst}
 use Rattle.gray_theory.specs.Rulers.{ruler-pos, ruler-at-end}
 use Rattle.gray_theory.specs.Sizes.{allFrom-weaker, size-pos}
-use Rattle.ahead.specs.Work.{Work, carry, append, idle}
+use Rattle.ahead_theory.specs.Work.{Work, carry, append, idle}
 use Rattle.gray_theory.specs.Capacities.{Openable}
-use Rattle.ahead.specs.Entries.{cost-mono, cost-least, cost-from-N}
+use Rattle.ahead_theory.specs.Entries.{cost-mono, cost-least, cost-from-N}
 
 -- entries t + 1 .. t + k are queued, in at most c places, and p of the carries of the next one are made
 pub record Position (ms : List ℕ) (c t k p : ℕ) : Type 0 where

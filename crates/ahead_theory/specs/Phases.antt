@@ -16,22 +16,20 @@ use Rattle.gray_theory.specs.WalkArrays.{take-word-array, word-array-start, dow
 use Rattle.gray_theory.specs.Engines.{Event, ended, Handed, refusedWith, after}
 use Rattle.gray_theory.specs.Arrays.{filled}
 use Rattle.gray_theory.specs.Filled.{filled-replicate}
-use Rattle.ahead.specs.declared.Producer.{Producer}
-use Rattle.ahead.specs.declared.Walk.{Walk}
-use Rattle.ahead.specs.States.{places, setting, inRange}
-use Rattle.ahead.specs.Work.{Work}
-use Rattle.ahead.specs.Calls.{fresh, Course, removing, course, stepBy, stepOf}
-use Rattle.ahead.specs.Runs.{state, answer, eventsBy, events}
-use Rattle.ahead.specs.Demand.{NamesChange}
-use Rattle.ahead.specs.Kept.{goes-over}
-use Rattle.ahead.specs.Counters.{mixedDigits, mixed-start, length-places}
-use Rattle.ahead.specs.Entries.{cost-zero}
+use Rattle.ahead_theory.specs.States.{Producer, Walk, places, setting, inRange}
+use Rattle.ahead_theory.specs.Work.{Work}
+use Rattle.ahead_theory.specs.Calls.{fresh, Course, removing, course, stepBy, stepOf}
+use Rattle.ahead_theory.specs.Runs.{state, answer, eventsBy, events}
+use Rattle.ahead_theory.specs.Demand.{NamesChange}
+use Rattle.ahead_theory.specs.Kept.{goes-over}
+use Rattle.ahead_theory.specs.Counters.{mixedDigits, mixed-start, length-places}
+use Rattle.ahead_theory.specs.Entries.{cost-zero}
 use Rattle.gray_theory.specs.Capacities.{Openable}
-use Rattle.ahead.specs.Positions.{Position, stepsAt, Ahead, Behind, work-position, work-steps, gain-small, ahead-fresh, ahead-work, ahead-remove, ahead-queued, behind-fresh, behind-work, behind-remove, behind-queued}
-use Rattle.ahead.specs.Canonical.{entries, same-producer, same-walk, producerAt, walkAt}
-use Rattle.ahead.specs.Ranged.{producer-ranged, state-ranged}
-use Rattle.ahead.specs.Rounds.{running, Round, round, dry-call, removing-call, move-call, end-call}
-use Rattle.ahead.specs.Tallies.{Tallied, tally-start, tally-twice, tally-remove}
+use Rattle.ahead_theory.specs.Positions.{Position, stepsAt, Ahead, Behind, work-position, work-steps, gain-small, ahead-fresh, ahead-work, ahead-remove, ahead-queued, behind-fresh, behind-work, behind-remove, behind-queued}
+use Rattle.ahead_theory.specs.Canonical.{entries, same-producer, same-walk, producerAt, walkAt}
+use Rattle.ahead_theory.specs.Ranged.{producer-ranged, state-ranged}
+use Rattle.ahead_theory.specs.Rounds.{running, Round, round, dry-call, removing-call, move-call, end-call}
+use Rattle.ahead_theory.specs.Tallies.{Tallied, tally-start, tally-twice, tally-remove}
 
 -- ---- when nothing changes any more
 -- the state after t calls is handed back by a call as it came, and no work step counts

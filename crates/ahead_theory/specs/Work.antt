@@ -4,8 +4,7 @@ use mathlib.Core.Bool.{Bool, cond, _&&_}
 use mathlib.Core.List.{List}
 use lib.Dec.{eqb, ltb}
 use lib.ListN.{length, getD, set}
-use Rattle.ahead.specs.declared.Producer.{Producer}
-use Rattle.ahead.specs.States.{places}
+use Rattle.ahead_theory.specs.States.{Producer, places}
 
 -- what a work step does. One that is not idle is useful
 pub data Work : Type 0 where

@@ -12,19 +12,17 @@ use Rattle.gray_theory.specs.Answers.{given, refused}
 use Rattle.gray_theory.specs.Bools.{impossible}
 use Rattle.gray_theory.specs.Radices.{size}
 use Rattle.gray_theory.specs.Engines.{ended}
-use Rattle.ahead.specs.declared.Producer.{Producer}
-use Rattle.ahead.specs.declared.Walk.{Walk}
-use Rattle.ahead.specs.States.{survey, inRange}
-use Rattle.ahead.specs.Work.{Work, carry, append, idle, countAt, radixAt, runOut, kind, done, work}
-use Rattle.ahead.specs.Calls.{fresh, once, twice, Course, course, dequeued, endOf, moveOf, stepBy, stepOf}
-use Rattle.ahead.specs.Runs.{state, answer, events, Accepting}
-use Rattle.ahead.specs.Demand.{Within, Finished, StepsCounted, NamesChange, WalksTheList, RunsDry, WorksAhead, StaysInRange}
+use Rattle.ahead_theory.specs.States.{Producer, Walk, survey, inRange}
+use Rattle.ahead_theory.specs.Work.{Work, carry, append, idle, countAt, radixAt, runOut, kind, done, work}
+use Rattle.ahead_theory.specs.Calls.{fresh, once, twice, Course, course, dequeued, endOf, moveOf, stepBy, stepOf}
+use Rattle.ahead_theory.specs.Runs.{state, answer, events, Accepting}
+use Rattle.ahead_theory.specs.Demand.{Within, Finished, StepsCounted, NamesChange, WalksTheList, RunsDry, WorksAhead, StaysInRange}
 use Rattle.gray_theory.specs.Capacities.{Openable}
-use Rattle.ahead.specs.Positions.{Position, stepsAt, steps-short}
-use Rattle.ahead.specs.Canonical.{producerAt, walkAt}
-use Rattle.ahead.specs.Rounds.{round, running, running-ranged}
-use Rattle.ahead.specs.Tallies.{Tallied, tally-finished}
-use Rattle.ahead.specs.Phases.{Still, still-on, Going, Dry, Ending, Phase, Phase.going, Phase.dried, Phase.over, fresh-setting, phase}
+use Rattle.ahead_theory.specs.Positions.{Position, stepsAt, steps-short}
+use Rattle.ahead_theory.specs.Canonical.{producerAt, walkAt}
+use Rattle.ahead_theory.specs.Rounds.{round, running, running-ranged}
+use Rattle.ahead_theory.specs.Tallies.{Tallied, tally-finished}
+use Rattle.ahead_theory.specs.Phases.{Still, still-on, Going, Dry, Ending, Phase, Phase.going, Phase.dried, Phase.over, fresh-setting, phase}
 
 -- ---- (a) the capacity: a work step appends only where there is room
 done-within : (c : ℕ) (p : Producer) (out full room : Bool)

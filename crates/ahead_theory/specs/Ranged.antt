@@ -15,14 +15,13 @@ use Rattle.gray_theory.specs.Answers.{isGiven}
 use Rattle.gray_theory.specs.Arrays.{filled}
 use Rattle.gray_theory.specs.WalkArrays.{arrays-in-range}
 use Rattle.gray_theory.specs.Filled.{take-filled, getD-filled}
-use Rattle.ahead.specs.declared.Producer.{Producer}
-use Rattle.ahead.specs.States.{survey, places, producerInRange, stepLimit, inRange}
-use Rattle.ahead.specs.InRange.{IsPlace, says-producer, says-range}
-use Rattle.ahead.specs.Counters.{mixedDigits, cleared, length-mixedDigits, mixed-below, length-cleared, cleared-below, ruler-most, allFrom-places, length-places}
+use Rattle.ahead_theory.specs.States.{Producer, survey, places, producerInRange, stepLimit, inRange}
+use Rattle.ahead_theory.specs.InRange.{IsPlace, says-producer, says-range}
+use Rattle.ahead_theory.specs.Counters.{mixedDigits, cleared, length-mixedDigits, mixed-below, length-cleared, cleared-below, ruler-most, allFrom-places, length-places}
 use Rattle.gray_theory.specs.Capacities.{Openable}
-use Rattle.ahead.specs.Openings.{opens}
-use Rattle.ahead.specs.Positions.{Position, one}
-use Rattle.ahead.specs.Canonical.{entries, length-entries, producerAt, walkAt}
+use Rattle.ahead_theory.specs.Openings.{opens}
+use Rattle.ahead_theory.specs.Positions.{Position, one}
+use Rattle.ahead_theory.specs.Canonical.{entries, length-entries, producerAt, walkAt}
 
 getD-entries : (ms : List ℕ) (t k i : ℕ) → i < k → getD (entries ms t k) i 0 ≡ ruler ms (suc (t + i))
 unfolding entries

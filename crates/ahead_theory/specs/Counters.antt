@@ -15,7 +15,7 @@ use Rattle.gray_theory.specs.Changes.{ruler}
 use Rattle.gray_theory.specs.Sizes.{allFrom-append, size-append, quotient-below}
 use Rattle.gray_theory.specs.Increments.{Increment, Increment.no-carry, Increment.carry, increment}
 use Rattle.gray_theory.specs.Rulers.{ruler-carry, ruler-no-carry, ruler-pos}
-use Rattle.ahead.specs.States.{places}
+use Rattle.ahead_theory.specs.States.{places}
 
 -- the digits of e, digit 1 first
 unfoldable pub mixedDigits : List ℕ → ℕ → List ℕ

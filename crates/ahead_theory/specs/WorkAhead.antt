@@ -7,12 +7,12 @@ use mathlib.Core.List.{List}
 use Rattle.gray_theory.specs.Answers.{given}
 use Rattle.gray_theory.specs.Radices.{digits, size}
 use Rattle.gray_theory.specs.Sizes.{size-pos}
-use Rattle.ahead.specs.declared.Walk.{Walk}
-use Rattle.ahead.specs.Calls.{openOf}
-use Rattle.ahead.specs.Demand.{WorksAhead, StaysInRange}
-use Rattle.ahead.specs.Positions.{one}
-use Rattle.ahead.specs.Openings.{opens-exactly, opens-fresh}
-use Rattle.ahead.specs.Clauses.{run-works-ahead, run-stays-in-range}
+use Rattle.ahead_theory.specs.States.{Walk}
+use Rattle.ahead_theory.specs.Calls.{openOf}
+use Rattle.ahead_theory.specs.Demand.{WorksAhead, StaysInRange}
+use Rattle.ahead_theory.specs.Positions.{one}
+use Rattle.ahead_theory.specs.Openings.{opens-exactly, opens-fresh}
+use Rattle.ahead_theory.specs.Clauses.{run-works-ahead, run-stays-in-range}
 
 -- Every walk that opening gives works ahead as demanded, whatever state it was opened on: (a) the queue never holds more than c
 -- entries; (b) entry j is finished by the useful step that the step formula says, in fewer than 2 j; (c) s counts the useful

@@ -16,18 +16,16 @@ use Rattle.gray_theory.specs.Engines.{moved, ended}
 use Rattle.gray_theory.specs.Arrays.{filled}
 use Rattle.gray_theory.specs.WalkArrays.{word-array-moved, down-array-moved, change-named}
 use Rattle.gray_theory.specs.Filled.{take-filled, filled-drop}
-use Rattle.ahead.specs.declared.Producer.{Producer}
-use Rattle.ahead.specs.declared.Walk.{Walk}
-use Rattle.ahead.specs.States.{survey, places, inRange}
-use Rattle.ahead.specs.Work.{Work, runOut, kind, done, work}
-use Rattle.ahead.specs.Calls.{once, twice, dry, removing, course, dequeued, endOf, moveOf, stepOf}
-use Rattle.ahead.specs.Runs.{eventsBy}
-use Rattle.ahead.specs.Kept.{goes-dry, goes-removing, removes-last, removes-digit}
-use Rattle.ahead.specs.Counters.{mixedDigits, cleared}
+use Rattle.ahead_theory.specs.States.{Producer, Walk, survey, places, inRange}
+use Rattle.ahead_theory.specs.Work.{Work, runOut, kind, done, work}
+use Rattle.ahead_theory.specs.Calls.{once, twice, dry, removing, course, dequeued, endOf, moveOf, stepOf}
+use Rattle.ahead_theory.specs.Runs.{eventsBy}
+use Rattle.ahead_theory.specs.Kept.{goes-dry, goes-removing, removes-last, removes-digit}
+use Rattle.ahead_theory.specs.Counters.{mixedDigits, cleared}
 use Rattle.gray_theory.specs.Capacities.{Openable}
-use Rattle.ahead.specs.Positions.{Position, Worked, stepsAt, one, work-position, work-steps, gain-small, counter-lasts}
-use Rattle.ahead.specs.Canonical.{entries, length-entries, entries-first, same-producer, same-walk, producerAt, walkAt, Does, does, not-run-out}
-use Rattle.ahead.specs.Ranged.{producer-ranged, state-ranged}
+use Rattle.ahead_theory.specs.Positions.{Position, Worked, stepsAt, one, work-position, work-steps, gain-small, counter-lasts}
+use Rattle.ahead_theory.specs.Canonical.{entries, length-entries, entries-first, same-producer, same-walk, producerAt, walkAt, Does, does, not-run-out}
+use Rattle.ahead_theory.specs.Ranged.{producer-ranged, state-ranged}
 
 -- the state of a running walk
 abbrev pub running : List ℕ → ℕ → ℕ → ℕ → ℕ → Walk

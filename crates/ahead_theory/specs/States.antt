@@ -9,8 +9,28 @@ use Rattle.gray_theory.specs.Answers.{Answer, given, isGiven}
 use Rattle.gray_theory.specs.Radices.{size}
 use Rattle.gray_theory.specs.Capacities.{ofSurvey}
 use Rattle.gray_theory.specs.Directions.{allBelow, digitsInRange}
-use Rattle.ahead.specs.declared.Producer.{Producer}
-use Rattle.ahead.specs.declared.Walk.{Walk}
+
+-- ---- the state
+-- what work steps change: the counter, the place that it has come to, the queue, how many entries that holds, and the useful
+-- steps made (document 01's b, i, queue and s)
+pub record Producer : Type 0 where
+  pub counter : List ℕ
+  pub place : ℕ
+  pub queue : List ℕ
+  pub queued : ℕ
+  pub steps : ℕ
+
+-- the state: the producer, the moves made (j), the survey (radices and their number n), the capacity c, the word (setting), the
+-- directions (down or not), and whether the walk has ended
+pub record Walk : Type 0 where
+  pub producer : Producer
+  pub moves : ℕ
+  pub radices : List ℕ
+  pub n : ℕ
+  pub word : List ℕ
+  pub capacity : ℕ
+  pub downs : List Bool
+  pub ended : Bool
 
 -- ---- the survey
 -- the checks of an opening: refusals 2, 3, 4 of the survey, then 5

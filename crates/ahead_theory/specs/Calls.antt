@@ -9,20 +9,8 @@ use Rattle.gray_theory.specs.Radices.{digits}
 use Rattle.gray_theory.specs.Arrays.{filled}
 use Rattle.gray_theory.specs.Directions.{wordMoved, downsMoved}
 use Rattle.gray_theory.specs.Engines.{Event, moved, ended, Handed, refusedWith}
-use Rattle.gray.specs.Enums.{openingAs, steppingAs}
-use Rattle.ahead.specs.declared.Producer.{Producer}
-use Rattle.ahead.specs.declared.Walk.{Walk}
-use Rattle.ahead.specs.declared.Opened.{Opened}
-use Rattle.ahead.specs.declared.Stepped.{Stepped}
-use Rattle.ahead.specs.States.{survey, openCheck, inRange}
-use Rattle.ahead.specs.Work.{work}
-
--- what the calls return, in document 01's terms
-abbrev pub openedAs : Opened → Handed Walk Unit
-openedAs r = record { state = r .walk; answer = openingAs (r .answer) }
-
-abbrev pub steppedAs : Stepped → Handed Walk Event
-steppedAs r = record { state = r .walk; answer = steppingAs (r .answer) }
+use Rattle.ahead_theory.specs.States.{Producer, Walk, survey, openCheck, inRange}
+use Rattle.ahead_theory.specs.Work.{work}
 
 -- ---- opening
 -- the fresh state of the n radices in an array: the setting all 0, directions all up, the counter all 0, place 1, an empty queue,

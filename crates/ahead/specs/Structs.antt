@@ -1,0 +1,35 @@
+-- The structs as the theory's records, field by field: a state, and what the calls return, in document 01's terms.
+use Rattle.gray_theory.specs.Engines.{Event, Handed}
+use Rattle.gray.specs.Enums.{openingAs, steppingAs}
+use Rattle.ahead_theory.specs.States as theory
+use Rattle.ahead.specs.declared.Producer.{Producer}
+use Rattle.ahead.specs.declared.Walk.{Walk}
+use Rattle.ahead.specs.declared.Opened.{Opened}
+use Rattle.ahead.specs.declared.Stepped.{Stepped}
+
+abbrev pub producerAs : Producer → theory.Producer
+producerAs p = record {
+  counter = p .counter;
+  place = p .place;
+  queue = p .queue;
+  queued = p .queued;
+  steps = p .steps;
+}
+
+abbrev pub walkAs : Walk → theory.Walk
+walkAs w = record {
+  producer = producerAs (w .producer);
+  moves = w .moves;
+  radices = w .radices;
+  n = w .n;
+  word = w .word;
+  capacity = w .capacity;
+  downs = w .downs;
+  ended = w .ended;
+}
+
+abbrev pub openedAs : Opened → Handed theory.Walk Unit
+openedAs r = record { state = walkAs (r .walk); answer = openingAs (r .answer) }
+
+abbrev pub steppedAs : Stepped → Handed theory.Walk Event
+steppedAs r = record { state = walkAs (r .walk); answer = steppingAs (r .answer) }

@@ -1,0 +1,24 @@
+-- The buffered engine. Read the definitions first, then the demand: the theorems say that the definitions keep it.
+
+-- definitions
+pub mod States
+pub mod Work
+pub mod Calls
+pub mod Runs
+-- what is promised of whole runs, and the theorems
+pub mod Demand
+pub mod WorkAhead
+pub mod Openings
+pub mod Kept
+-- the run: its numbers and their invariants, the states that follow from them, one call, the events, the phases, the clauses
+pub mod Positions
+pub mod Canonical
+pub mod Ranged
+pub mod Rounds
+pub mod Tallies
+pub mod Phases
+pub mod Clauses
+-- laws
+pub mod Entries
+pub mod Counters
+pub mod InRange
