@@ -145,8 +145,24 @@ module _ (ms : List ℕ) (c last : ℕ) (v : Openable ms c) (whole : size ms ≡
 
   -- (d)
   walks : length ms ≤ 2 * c → WalksTheList ms (fresh ms c)
-  walks enough = record { moves = λ j from to. names j from to (run j); end = λ j from. ends j from (run j) }
+  walks enough =
+      record {
+        moves = λ j from to. names j from to (run j);
+        made = λ j to. counts-moves j to (run j);
+        end = λ j from. ends j from (run j);
+        unchanged = λ j from. stands j from (run j);
+      }
     where
+      counts-moves : (j : ℕ) → j < size ms → Phase ms c last (fresh ms c) j → state (fresh ms c) j .moves ≡ j
+      counts-moves j to (going g) = ap (λ (u : Walk). u .moves) (g .is-state)
+      counts-moves j to (dried t u h g d) = let few = d .few in absurd (omega arith)
+      counts-moves j to (over h e) = absurd (omega arith)
+
+      stands : (j : ℕ) → size ms ≤ j → Phase ms c last (fresh ms c) j → state (fresh ms c) (suc j) ≡ state (fresh ms c) j
+      stands j from (going g) = let below = g .below in absurd (omega arith)
+      stands j from (dried t u h g d) = let few = d .few in absurd (omega arith)
+      stands j from (over h e) = rest (e .still) (suc j) (omega arith) .0 ∙ sym (rest (e .still) j h .0)
+
       names : (j : ℕ) → 1 ≤ j → j < size ms → Phase ms c last (fresh ms c) j → NamesChange ms (fresh ms c) j
       names j from to (going g) = g .named j from (omega arith)
       names j from to (dried t u h g d) = let few = d .few in absurd (omega arith)
@@ -161,6 +177,15 @@ module _ (ms : List ℕ) (c last : ℕ) (v : Openable ms c) (whole : size ms ≡
   dries : 2 * c < length ms → (d : ℕ) × RunsDry ms (fresh ms c) d
   dries few = by (run (size ms))
     where
+      -- a walk that goes on after t calls has not run dry before, so that each of its states has made as many moves as calls
+      before : (t : ℕ) → Going ms c last (fresh ms c) t → (j : ℕ) → j ≤ t → Phase ms c last (fresh ms c) j → state (fresh ms c) j .moves ≡ j
+      before t g j to (going here) = ap (λ (u : Walk). u .moves) (here .is-state)
+      before t g j to (dried i u h early d) =
+          let named = g .named (suc i) (omega arith) (omega arith) .answers in
+          let dry = dry-from d (suc i) (omega arith) in
+          impossible (cc)
+      before t g j to (over h e) = let below = g .below in absurd (omega arith)
+
       by : Phase ms c last (fresh ms c) (size ms) → (d : ℕ) × RunsDry ms (fresh ms c) d
       by (going g) = let below = g .below in absurd (omega arith)
       by (dried t u h g d) = (
@@ -169,7 +194,9 @@ module _ (ms : List ℕ) (c last : ℕ) (v : Openable ms c) (whole : size ms ≡
           from-one = omega arith;
           within-N = h;
           moves = λ j from to. g .named j from (omega arith);
+          made = λ j to. before t g j (omega arith) (run j);
           dry = λ j from. dry-from d j from;
+          quiet = λ j from. rest (d .still) j (omega arith) .1 ∙ ap (events (fresh ms c)) (omega arith);
         },
       )
       by (over h e) = let enough = e .enough in absurd (omega arith)

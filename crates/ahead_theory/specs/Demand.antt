@@ -1,6 +1,6 @@
 -- Demand 3, as a statement about the whole run of calls from a walk: what work-ahead with c places promises. The theorem that
 -- every fresh walk keeps it stands in WorkAhead.
-use Prim.Native.Nat.{ℕ, suc, _+_, _*_, _≤_, _<_}
+use Prim.Native.Nat.{ℕ, suc, _+_, _-_, _*_, _≤_, _<_}
 use mathlib.Core.Path.{_≡_}
 use mathlib.Core.Bool.{true, false}
 use mathlib.Core.List.{List, _∷_, _++_}
@@ -38,17 +38,23 @@ pub record StepsCounted (ms : List ℕ) (w : Walk) (t : ℕ) : Type 0 where
 abbrev pub NamesChange : List ℕ → Walk → ℕ → Type 0
 NamesChange ms w j = Names stepOf setting ms w j
 
--- (d) calls 1 to N − 1 name changes 1 to N − 1; call N and every later one answer end
+-- (d) calls 1 to N − 1 name changes 1 to N − 1, and j counts them; call N and every later one answer end, and no call after it
+-- changes anything
 pub record WalksTheList (ms : List ℕ) (w : Walk) : Type 0 where
   pub moves : (j : ℕ) → 1 ≤ j → j < size ms → NamesChange ms w j
+  pub made : (j : ℕ) → j < size ms → state w j .moves ≡ j
   pub end : (j : ℕ) → size ms ≤ j → answer w j ≡ given ended
+  pub unchanged : (j : ℕ) → size ms ≤ j → state w (suc j) ≡ state w j
 
--- (e) there is a call d, at most call N: the calls before it name their changes, and it and every later one are dry
+-- (e) there is a call d, at most call N: the calls before it name their changes, and j counts them; it and every later one are
+-- dry, and none of their work steps counts
 pub record RunsDry (ms : List ℕ) (w : Walk) (d : ℕ) : Type 0 where
   pub from-one : 1 ≤ d
   pub within-N : d ≤ size ms
   pub moves : (j : ℕ) → 1 ≤ j → j < d → NamesChange ms w j
+  pub made : (j : ℕ) → j < d → state w j .moves ≡ j
   pub dry : (j : ℕ) → d ≤ j → answer w j ≡ refused 10
+  pub quiet : (j : ℕ) → d ≤ j → events w j ≡ events w (d - 1)
 
 -- demand 3, for a walk with the radices ms and the capacity c, and every number of calls. The walk starts at the setting of
 -- rank 0

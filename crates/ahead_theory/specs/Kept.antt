@@ -4,16 +4,20 @@ use Prim.Native.Nat.{ℕ, _+_, _-_, _*_, _≤_, _<_}
 use native.Mathlib.Decide.{ℕ-discrete}
 use native.Mathlib.Omega.{arith}
 use mathlib.Core.Path.{_≡_, refl, sym, ap, subst, _∙_}
-use mathlib.Core.Bool.{Bool, true, false}
+use mathlib.Core.Bool.{Bool, true, false, cond}
+use lib.Dec.{eqb}
 use borrow.Author.Tests.{eq-eqb, ne-eqb}
 use lib.ListN.{getD, length-set}
 use lib.Seq.{getD-take}
-use Rattle.gray_theory.specs.Engines.{refusedWith}
+use Rattle.gray_theory.specs.Answers.{given}
+use Rattle.gray_theory.specs.Bools.{impossible}
+use Rattle.gray_theory.specs.Changes.{Change}
+use Rattle.gray_theory.specs.Engines.{moved, refusedWith}
 use Rattle.gray_theory.specs.Radices.{size}
 use Rattle.gray_theory.specs.DigitRanges.{digits-move-in-range}
 use Rattle.gray_theory.specs.Sizes.{radix-two}
-use Rattle.ahead_theory.specs.States.{Walk, survey, producerInRange, stepLimit, inRange}
-use Rattle.ahead_theory.specs.Calls.{fresh, closedWalk, twice, faulty, over, dry, removing, course, dequeued, endOf, moveOf, stepBy, stepOf}
+use Rattle.ahead_theory.specs.States.{Producer, Walk, survey, producerInRange, stepLimit, inRange}
+use Rattle.ahead_theory.specs.Calls.{fresh, closedWalk, twice, Course, faulty, over, dry, removing, course, dequeued, endOf, moveOf, stepBy, stepOf}
 use Rattle.ahead_theory.specs.InRange.{Arrays, producer-says, dequeued-long, dequeued-in-range, range-says, says-range, survey-openable, survey-long, reached-twice}
 
 -- ---- calls
@@ -166,6 +170,39 @@ past-the-end w h = go (inRange w) refl
     go : (b : Bool) → inRange w ≡ b → stepOf w ≡ refusedWith 7 w
     go true e = let s = range-says w e in absurd (omega arith)
     go false e = ap (stepBy w) (goes-faulty w e)
+
+-- a call that moves adds one move and keeps the survey
+one-move : (w : Walk) (c : Change) (o : Course)
+    → stepBy w o .answer ≡ given (moved c)
+    → (stepBy w o .state .moves ≡ w .moves + 1) × (survey (stepBy w o .state) ≡ survey w)
+unfolding endOf moveOf
+one-move w c faulty e = impossible (cc)
+one-move w c over e = impossible (cc)
+one-move w c dry e = impossible (cc)
+one-move w c removing e = by (eqb (getD (twice w .queue) 0 0) (w .n + 1)) e
+  where
+    k : ℕ
+    k = getD (twice w .queue) 0 0
+
+    p : Producer
+    p = dequeued (twice w)
+
+    by : (b : Bool) → cond b (endOf w p) (moveOf w k p) .answer ≡ given (moved c)
+        → (cond b (endOf w p) (moveOf w k p) .state .moves ≡ w .moves + 1) × (survey (cond b (endOf w p) (moveOf w k p) .state) ≡ survey w)
+    by true e = impossible (cc)
+    by false e = (refl, refl)
+
+-- a state that moves at j = N − 1 comes out with j = N, and its next call gets 7
+pub last-move-then-7 : (w : Walk) (c : Change)
+    → w .moves + 1 ≡ size (survey w)
+    → stepOf w .answer ≡ given (moved c)
+    → (stepOf w .state .moves ≡ size (survey w)) × (stepOf (stepOf w .state) ≡ refusedWith 7 (stepOf w .state))
+unfolding stepOf
+last-move-then-7 w c last e =
+    let (more, same) = one-move w c (course w) e in
+    let now = more ∙ last in
+    let most : size (survey (stepOf w .state)) ≤ stepOf w .state .moves = rw (same, now) (omega arith) in
+    (now, past-the-end (stepOf w .state) most)
 
 -- a closed walk has no survey: every call on it gets 7
 pub closed-gets-7 : stepOf closedWalk ≡ refusedWith 7 closedWalk

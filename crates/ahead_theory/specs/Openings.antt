@@ -43,3 +43,15 @@ pub opens-fresh : (w : Walk) (radices : List ℕ) (c : ℕ)
 unfolding openOf
 opens-fresh w radices c e =
     ap (λ (a : Answer Unit). openWith w (digits radices) c a .state) (opens (opens-exactly w radices c .0 e))
+
+refused-given-back : (w : Walk) (ms : List ℕ) (c : ℕ) (a : Answer Unit) (k : ℕ) → openWith w ms c a .answer ≡ refused k → openWith w ms c a .state ≡ w
+refused-given-back w ms c (given u) k e = impossible (cc)
+refused-given-back w ms c (refused i) k e = refl
+
+-- a refused one hands back the state as it came
+pub refused-opening-keeps-the-state : (w : Walk) (radices : List ℕ) (c : ℕ) (k : ℕ)
+    → openOf w radices c .answer ≡ refused k
+    → openOf w radices c .state ≡ w
+unfolding openOf
+refused-opening-keeps-the-state w radices c k e =
+    refused-given-back w (digits radices) c (openCheck (digits radices) c) k e

@@ -53,3 +53,15 @@ pub opens-fresh : (s : Towers) (radices : List ℕ)
 unfolding openOf
 opens-fresh s radices e =
     ap (λ (a : Answer Unit). openWith s (digits radices) a .state) (opens (opens-exactly s radices .0 e))
+
+refused-given-back : (s : Towers) (ms : List ℕ) (a : Answer Unit) (k : ℕ) → openWith s ms a .answer ≡ refused k → openWith s ms a .state ≡ s
+refused-given-back s ms (given u) k e = impossible (cc)
+refused-given-back s ms (refused i) k e = refl
+
+-- a refused one hands back the state as it came
+pub refused-opening-keeps-the-state : (s : Towers) (radices : List ℕ) (k : ℕ)
+    → openOf s radices .answer ≡ refused k
+    → openOf s radices .state ≡ s
+unfolding openOf
+refused-opening-keeps-the-state s radices k e =
+    refused-given-back s (digits radices) (openCheck (digits radices)) k e

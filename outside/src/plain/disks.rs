@@ -32,7 +32,14 @@ impl Disks {
         let radices_of_state = reversed(radices);
         let zeros = [0; MOST_DIGITS];
         let downs = [false; MOST_DIGITS];
-        Ok(Disks { radices: radices_of_state, n: radices.len(), word: zeros, downs, pegs: zeros, turn: 0 })
+        Ok(Disks {
+            radices: radices_of_state,
+            n: radices.len(),
+            word: zeros,
+            downs,
+            pegs: zeros,
+            turn: 0,
+        })
     }
 
     #[inline]
@@ -72,7 +79,7 @@ impl Disks {
     }
 
     /// What a call does with a state in range.
-    #[inline]
+    #[inline(always)]
     fn call(&mut self) -> Step {
         let Some(i) = self.chosen() else { return Step::End };
         if self.odd() {

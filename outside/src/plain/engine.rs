@@ -1,7 +1,5 @@
 //! What both engines share.
-use super::words::MOST_DIGITS;
-
-const MOST_WORDS: u64 = 1 << 62;
+use super::words::{MOST_DIGITS, MOST_WORDS};
 
 /// Up to here any radix leaves the product within the limit.
 const SMALL: u64 = MOST_WORDS / 256;
@@ -44,7 +42,9 @@ pub fn size_in_state(radices: &[u8]) -> Option<u64> {
 #[inline]
 pub fn digits_in_range(radices: &[u8], word: &[u8], downs: &[bool]) -> bool {
     let digits = radices.iter().zip(word).zip(downs);
-    digits.fold(true, |ok, ((&m, &a), &down)| ok & (a < m) & !((a == 0) & down) & !((a == m.wrapping_sub(1)) & !down))
+    digits.fold(true, |ok, ((&m, &a), &down)| {
+        ok & (a < m) & !((a == 0) & down) & !((a == m.wrapping_sub(1)) & !down)
+    })
 }
 
 /// A digit moves one notch in its direction, which turns at either end. The move as a byte: the digit, the top bit set for down.

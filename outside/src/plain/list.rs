@@ -13,7 +13,10 @@ impl Focus {
     /// block of resting digits points past the block, every other digit to itself.
     fn at(radices: &[u8], rank: u64) -> Focus {
         let n = radices.len();
-        let mut focus = Focus { pointers: std::array::from_fn(|i| i), downs: [false; MOST_DIGITS] };
+        let mut focus = Focus {
+            pointers: std::array::from_fn(|i| i),
+            downs: [false; MOST_DIGITS],
+        };
         let mut slower = rank;
         let mut block = 0;
         for i in 0..n {

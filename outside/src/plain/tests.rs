@@ -25,7 +25,11 @@ fn words_are_alike() {
         assert_eq!(capi::size(&radices), words::size(&radices));
         let rank = chance.below(capi::size(&radices).unwrap_or(9) + 2);
         let room = radices.len() + chance.between(0, 2) - chance.between(0, 1).min(radices.len());
-        let mut word = alike(room, |out| capi::word(&radices, rank, out), |out| words::word(&radices, rank, out));
+        let mut word = alike(
+            room,
+            |out| capi::word(&radices, rank, out),
+            |out| words::word(&radices, rank, out),
+        );
         if chance.once_in(4) && !word.is_empty() {
             let place = chance.between(0, word.len() - 1);
             word[place] = chance.byte(0, 255);
@@ -42,7 +46,11 @@ fn lists_are_alike() {
         let from = chance.below(capi::size(&radices).unwrap_or(9) + 2);
         let count = chance.below(300);
         let room = (count as usize * radices.len() + 1).saturating_sub(chance.between(0, 2));
-        alike(room, |out| capi::list(&radices, from, count, out), |out| list::list(&radices, from, count, out));
+        alike(
+            room,
+            |out| capi::list(&radices, from, count, out),
+            |out| list::list(&radices, from, count, out),
+        );
     }
 }
 
@@ -55,7 +63,11 @@ fn engines_are_alike() {
         let half = radices.len().div_ceil(2);
         let capacity = (half + chance.between(0, 2)).saturating_sub(1) + 40 * usize::from(chance.once_in(20));
         for plain in [walk::moves, walk::run] {
-            alike(room, |out| capi::moves(&radices, capacity, out), |out| plain(&radices, capacity, out));
+            alike(
+                room,
+                |out| capi::moves(&radices, capacity, out),
+                |out| plain(&radices, capacity, out),
+            );
         }
         for plain in [disks::moves, disks::run] {
             alike(room, |out| capi::towers(&radices, out), |out| plain(&radices, out));

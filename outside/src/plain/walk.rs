@@ -68,13 +68,20 @@ impl Queue for Ring {
 
 impl Ring {
     fn of(queue: &Shifting) -> Ring {
-        Ring { entries: queue.entries, first: 0, end: queue.len }
+        Ring {
+            entries: queue.entries,
+            first: 0,
+            end: queue.len,
+        }
     }
 
     fn shifted(mut self) -> Shifting {
         let len = self.len();
         self.entries.rotate_left(self.first % MOST_ENTRIES);
-        Shifting { entries: self.entries, len }
+        Shifting {
+            entries: self.entries,
+            len,
+        }
     }
 }
 
@@ -178,7 +185,13 @@ impl Walk {
             ended: false,
         };
         core.radices[n] = 2;
-        Ok(Walk { core, queue: Shifting { entries: [0; MOST_ENTRIES], len: 0 } })
+        Ok(Walk {
+            core,
+            queue: Shifting {
+                entries: [0; MOST_ENTRIES],
+                len: 0,
+            },
+        })
     }
 
     /// The range rule.
@@ -189,9 +202,13 @@ impl Walk {
         if n > MOST_DIGITS || core.capacity == 0 || core.capacity > MOST_ENTRIES || queue.len > core.capacity {
             return false;
         }
-        let Some(total) = size_in_state(&core.radices[..n]) else { return false };
+        let Some(total) = size_in_state(&core.radices[..n]) else {
+            return false;
+        };
         let digits = digits_in_range(&core.radices[..n], &core.word[..n], &core.downs[..n]);
-        let entries = queue.entries[..queue.len].iter().fold(true, |ok, &k| ok & (1 <= k) & (usize::from(k) <= n + 1));
+        let entries = queue.entries[..queue.len]
+            .iter()
+            .fold(true, |ok, &k| ok & (1 <= k) & (usize::from(k) <= n + 1));
         digits & entries & core.counts_in_range(n, total)
     }
 

@@ -2,7 +2,7 @@
 use crate::capi::Answer;
 
 pub const MOST_DIGITS: usize = 48;
-const MOST_WORDS: u64 = 1 << 62;
+pub const MOST_WORDS: u64 = 1 << 62;
 
 /// N, the number of words: refusals 2, 3 and 4.
 #[inline(never)]
@@ -25,7 +25,10 @@ pub fn counted(radices: &[u8]) -> Answer {
 /// No radix is below 2, so a product that is over the limit stays there, and one test at the end will do.
 #[inline]
 fn product(radices: &[u8]) -> Option<u64> {
-    radices.iter().try_fold(1u64, |p, &m| p.checked_mul(m.into())).filter(|&p| p <= MOST_WORDS)
+    radices
+        .iter()
+        .try_fold(1u64, |p, &m| p.checked_mul(m.into()))
+        .filter(|&p| p <= MOST_WORDS)
 }
 
 /// A digit as it is after an even rank of the slower ones, from the other end after an odd one.
