@@ -112,27 +112,39 @@ walk-moves-are-the-lists radices c room accepted places =
       stops = λ j h rest. ap (λ (a : Answer Event). moveThen a rest) (walks .end j h);
     })
 
--- With fewer it writes the list's moves up to the call that is dry, call d at the most N.
-pub small-buffers-stop-early : (radices : List ℕ) (c : ℕ)
+-- Whatever its capacity, it writes moves of the list, from the first on without a gap: the first d − 1, where call d, at the most
+-- call N, is the end or dry.
+pub walk-moves-begin-the-list : (radices : List ℕ) (c : ℕ)
     → ahead.openOf ahead.closedWalk radices c .answer ≡ given tt
-    → 2 * c < length (digits radices)
     → (d : ℕ)
     × (1 ≤ d)
     × (d ≤ size (digits radices))
     × ((room : ℕ) → walkMovesCall radices c room ≡ given (take room (listMoves (digits radices) 0 (d - 1))))
 unfolding walkMovesCall
-small-buffers-stop-early radices c accepted places =
-    let (d, dries) = fresh-walks-work-ahead ahead.closedWalk radices c accepted .dry-within-N places in (
-      d,
-      dries .from-one,
-      dries .within-N,
-      λ room. run-of-opened ahead.stepOf (digits radices) (ahead.openOf ahead.closedWalk radices c) d room accepted
-          (record {
-            from-one = dries .from-one;
-            moves = λ j a b. dries .moves j a b .answers;
-            stops = λ j h rest. ap (λ (a : Answer Event). moveThen a rest) (dries .dry j h);
-          }),
-    )
+walk-moves-begin-the-list radices c accepted =
+    let ms = digits radices in
+    let works = fresh-walks-work-ahead ahead.closedWalk radices c accepted in
+    elim (decLt (2 * c) (length ms)) [
+      | yes few ↦ (
+          let (d, dries) = works .dry-within-N few in (
+            d,
+            dries .from-one,
+            dries .within-N,
+            λ room. run-of-opened ahead.stepOf ms (ahead.openOf ahead.closedWalk radices c) d room accepted
+                (record {
+                  from-one = dries .from-one;
+                  moves = λ j x y. dries .moves j x y .answers;
+                  stops = λ j h rest. ap (λ (a : Answer Event). moveThen a rest) (dries .dry j h);
+                }),
+          )
+          )
+      | no enough ↦ (
+        size ms,
+        some-word ms (ahead-opens.opens-exactly ahead.closedWalk radices c .0 accepted .survey .two),
+        omega arith,
+        λ room. walk-moves-are-the-lists radices c room accepted (omega (arith, enough)),
+      )
+    ]
 
 -- The disk engine writes the list's moves 1 to N − 1 of every survey that it opens.
 pub disk-moves-are-the-lists : (radices : List ℕ) (room : ℕ)
