@@ -64,10 +64,10 @@ fn put_disks(towers: Towers, out: &mut [u8]) -> usize
     while i < out.len() {
         let stepped = at.step();
         let answer = stepped.answer;
-        let Stepping::Moved(k, down) = answer else {
+        let Stepping::Moved(disk, down) = answer else {
             return i;
         };
-        out[i] = gray::move_byte(k, down);
+        out[i] = gray::move_byte(disk, down);
         at = stepped.towers;
         i += 1;
     }
