@@ -10,10 +10,10 @@ use lib.ListN.{length, getD, set, take, drop}
 use lib.Seq.{length-take-le}
 use Rattle.gray_theory.specs.Answers.{given}
 use Rattle.gray_theory.specs.Directions.{digitInRange}
-use Rattle.gray.specs.Advances.{advancedFrom, digit-advanced}
+use Rattle.digit.specs.Advances.{advancedFrom, digit-advanced}
 use Rattle.gray_theory.specs.Engines.{moved, ended, refusedWith}
 use Rattle.gray_theory.specs.DigitRanges.{allBelow-each}
-use Rattle.gray.specs.declared.Directed.{Directed}
+use Rattle.digit.specs.declared.Directed.{Directed}
 use Rattle.ahead_theory.specs.States.{Producer, Walk, survey, places, inRange}
 use Rattle.ahead_theory.specs.Work.{countAt, radixAt, runOut, done, work}
 use Rattle.ahead_theory.specs.Calls.{twice, course, removing, dequeued, endOf, moveOf, stepBy, stepOf}

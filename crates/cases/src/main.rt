@@ -374,10 +374,10 @@ fn move_case(digits: &[u8], down: bool) {
         print_unread();
         return;
     }
-    let byte = gray::move_byte(digits[0], down);
+    let byte = digit::move_byte(digits[0], down);
     print_byte(b": ", byte);
-    print_byte(b"; digit ", gray::move_digit(byte));
-    print_direction(gray::move_down(byte));
+    print_byte(b"; digit ", digit::move_digit(byte));
+    print_direction(digit::move_down(byte));
 }
 
 fn rank_case(radices: &[u8], numbers: &[u64]) {

@@ -221,7 +221,7 @@ impl Engine {
 
 // Whether a setting, with digit 1 first, is the word and zeros past its digits.
 fn is_setting_of(setting: [u8; 48], word: &[u8]) -> bool {
-    starts_with(&setting, &gray::reversed(word))
+    starts_with(&setting, &digit::reversed(word))
 }
 
 fn is_next(from: u8, to: u8, down: bool) -> bool {
@@ -241,8 +241,8 @@ fn leads(from: &[u8], to: &[u8], k: u8, down: bool) -> bool {
         return false;
     }
     let i = wide(k) - 1;
-    let mut setting = gray::reversed(from);
-    let new = gray::reversed(to);
+    let mut setting = digit::reversed(from);
+    let new = digit::reversed(to);
     let goes = is_next(setting[i], new[i], down);
     setting[i] = new[i];
     goes & is_setting_of(setting, to)

@@ -3,7 +3,6 @@
 
 -- definitions
 pub mod Enums
-pub mod Advances
 -- laws
 pub mod Passing
 -- what private functions answer

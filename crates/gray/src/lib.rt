@@ -1,4 +1,4 @@
-// The reflected mixed-radix Gray code: sizes, ranks, words and move bytes.
+// The reflected mixed-radix Gray code: sizes, ranks and words.
 // Radices and words are lent bytes with digit n first; digit 1 is the fastest.
 
 ghost use mathlib.Core.Path.{_≡_};
@@ -8,10 +8,6 @@ ghost use lib.ListN.{length};
 ghost use Rattle.gray_theory.specs.Answers.{numberOf, Wrote};
 ghost use Rattle.gray_theory.specs.Radices.{digits, size as sizeOf, allFrom};
 ghost use Rattle.gray_theory.specs.Words.{reflect as reflected, isWord, rank as rankOf};
-ghost use Rattle.gray_theory.specs.Directions.{turnedAt, digitInRange, wordInRange};
-ghost use Rattle.gray.specs.Advances.{advancedFrom};
-ghost use Rattle.gray_theory.specs.Arrays.{digitArray};
-ghost use Rattle.gray_theory.specs.MoveBytes.{moveByte, moveDigit, moveDown};
 ghost use Rattle.gray_theory.specs.Calls.{sizeCall, rankCall, wordCall};
 ghost use Rattle.gray.specs.Enums.{countedAs, rankedAs, writtenAs};
 ghost use Rattle.gray.specs.Stages.{productAs, checkedAs, checkNumber, Rankable, Room, putWord};
@@ -45,12 +41,6 @@ pub enum Stepping {
     Moved(u8, bool),
     End,
     Refused(u8),
-}
-
-// A digit with its direction.
-pub struct Directed {
-    pub digit: u8,
-    pub down: bool,
 }
 
 // A product of radices, within the limit of 2^62 or over it.
@@ -259,87 +249,4 @@ pub fn word(radices: &[u8], rank: u64, out: &mut [u8]) -> Written
     }
     put_word(radices, rank, out);
     Written::Bytes(radices.len())
-}
-
-// A move as a byte: the digit in the low seven bits, the top bit set for down.
-pub fn move_byte(digit: u8, down: bool) -> u8
-    ensures { λ r. ⌜ r ≡ moveByte digit down ⌝ }
-{
-    (digit & 127) | ((down as u8) << 7)
-}
-
-pub fn move_digit(byte: u8) -> u8
-    ensures { λ r. ⌜ r ≡ moveDigit byte ⌝ }
-{
-    byte & 127
-}
-
-pub fn move_down(byte: u8) -> bool
-    ensures { λ r. ⌜ r ≡ moveDown byte ⌝ }
-{
-    byte >> 7 == 1
-}
-
-// The range rule for one digit.
-fn digit_in_range(m: u8, a: u8, down: bool) -> bool
-    ensures { λ r. ⌜ r ≡ digitInRange m a down ⌝ }
-{
-    let top = if m == 0 { 0 } else { m - 1 };
-    (a < m) & (!((a == 0) & down) & !((a == top) & !down))
-}
-
-// The range rule for a setting and its directions, which both engines keep. Digits may stand in either order. Tests are gathered
-// over all of them, with no way out in between, so that the loop can run on vectors.
-pub fn digits_in_range(radices: &[u8], word: &[u8], downs: &[bool]) -> bool
-    ensures { λ r. ⌜ r ≡ wordInRange (now (radices .entry)) (now (word .entry)) (now (downs .entry)) ⌝ }
-{
-    let n = radices.len();
-    if (word.len() != n) | (downs.len() != n) {
-        return false;
-    }
-    let mut ok = true;
-    let mut i = 0;
-    while i < n {
-        ok = ok & digit_in_range(radices[i], word[i], downs[i]);
-        i += 1;
-    }
-    ok
-}
-
-fn turned(m: u8, a: u8, down: bool) -> bool
-    requires { ⌜ 0 < m ⌝ }
-    ensures { λ r. ⌜ r ≡ turnedAt m a down ⌝ }
-{
-    if (a == 0) | (a == m - 1) { !down } else { down }
-}
-
-// The move that both engines make: a digit goes one notch in its direction, which turns at either end.
-pub fn advanced(m: u8, a: u8, down: bool) -> Directed
-    ensures { λ r. ⌜ r ≡ advancedFrom m a down ⌝ }
-{
-    if !digit_in_range(m, a, down) {
-        return Directed {
-            digit: a,
-            down: down,
-        };
-    }
-    let to = if down { a - 1 } else { a + 1 };
-    Directed {
-        digit: to,
-        down: turned(m, to, down),
-    }
-}
-
-// Lent bytes as an engine's array: digit 1 first, zeros in the places past the digits.
-pub fn reversed(bytes: &[u8]) -> [u8; 48]
-    ensures { λ r. ⌜ r ≡ digitArray (now (bytes .entry)) ⌝ }
-{
-    let mut out = [0u8; 48];
-    let n = bytes.len();
-    let mut i = 0;
-    while (i < n) & (i < 48) {
-        out[i] = bytes[n - 1 - i];
-        i += 1;
-    }
-    out
 }

@@ -36,7 +36,7 @@ fn put_walk(walk: Walk, out: &mut [u8]) -> usize
         let Stepping::Moved(k, down) = answer else {
             return i;
         };
-        out[i] = gray::move_byte(k, down);
+        out[i] = digit::move_byte(k, down);
         at = stepped.walk;
         i += 1;
     }
@@ -67,7 +67,7 @@ fn put_disks(towers: Towers, out: &mut [u8]) -> usize
         let Stepping::Moved(disk, down) = answer else {
             return i;
         };
-        out[i] = gray::move_byte(disk, down);
+        out[i] = digit::move_byte(disk, down);
         at = stepped.towers;
         i += 1;
     }

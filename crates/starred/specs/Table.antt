@@ -140,7 +140,12 @@ table =
     ∷ row (answers numbers) (sizeCall (1 ∷ [])) (refused 3)
     ∷ row (answers numbers) (sizeCall (2 ∷ [])) (given 2)
     ∷ row (answers numbers) (sizeCall (255 ∷ [])) (given 255)
-    -- 48 of 2 opened with c = 32, with c = 33, and with no place at all
+    -- the same, opened; and 48 of 2 with c = 32, with c = 33, and with no place at all
+    ∷ row (answers units) (openOf closedWalk [] 1 .answer) (refused 2)
+    ∷ row (answers units) (openOf closedWalk (replicate 49 2) 25 .answer) (refused 2)
+    ∷ row (answers units) (openOf closedWalk (1 ∷ []) 1 .answer) (refused 3)
+    ∷ row (answers units) (openOf closedWalk (2 ∷ []) 1 .answer) (given tt)
+    ∷ row (answers units) (openOf closedWalk (255 ∷ []) 1 .answer) (given tt)
     ∷ row (answers units) (openOf closedWalk (replicate 48 2) 32 .answer) (given tt)
     ∷ row (answers units) (openOf closedWalk (replicate 48 2) 33 .answer) (refused 5)
     ∷ row (answers units) (openOf closedWalk (replicate 48 2) 0 .answer) (refused 5)

@@ -13,10 +13,10 @@ use lib.Seq.{length-take-le, getD-take, set-getD}
 use Rattle.gray_theory.specs.Answers.{given}
 use Rattle.gray_theory.specs.Words.{even}
 use Rattle.gray_theory.specs.Directions.{wordMoved, downsMoved, digitInRange}
-use Rattle.gray.specs.Advances.{advancedFrom, digit-advanced}
+use Rattle.digit.specs.Advances.{advancedFrom, digit-advanced}
 use Rattle.gray_theory.specs.DigitRanges.{allBelow-each}
 use Rattle.gray_theory.specs.Engines.{ended, refusedWith}
-use Rattle.gray.specs.declared.Directed.{Directed}
+use Rattle.digit.specs.declared.Directed.{Directed}
 use Rattle.gray.specs.declared.Stepping.the-variants.{Moved}
 use Rattle.towers_theory.specs.States.{Towers, allOdd, common, survey, inRange}
 use Rattle.towers_theory.specs.Choices.{sidePeg, pegOf, smallest, onPair, sweeping, isTop, elsewhere, chosenOnPair, chosenOnRing, chosen}

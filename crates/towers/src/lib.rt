@@ -205,7 +205,7 @@ impl Towers {
             };
         };
         let n = radices.len();
-        let digits = gray::reversed(radices);
+        let digits = digit::reversed(radices);
         if !playable(&digits[..n]) {
             return Opened {
                 towers: self,
@@ -239,7 +239,7 @@ impl Towers {
         let pegs = self.pegs;
         let m = radices[0];
         let odd = !(m % 2 == 0);
-        let notches = gray::digits_in_range(&radices[..n], &word[..n], &downs[..n]);
+        let notches = digit::digits_in_range(&radices[..n], &word[..n], &downs[..n]);
         let turns = if odd { 2 } else { m };
         let within = if odd {
             true
@@ -302,7 +302,7 @@ impl Towers {
         let a = word[i];
         let down = downs[i];
         let peg = pegs[i];
-        let to = gray::advanced(radices[i], a, down);
+        let to = digit::advanced(radices[i], a, down);
         word[i] = to.digit;
         downs[i] = to.down;
         pegs[i] = if odd { peg } else { next_peg(m, i, peg) };

@@ -15,8 +15,6 @@ const WINDOW: usize = 1 << 20;
 const WINDOWS: usize = 16;
 /// Moves of a log: with their kinds, about 1 MiB.
 const LOGGED: u64 = 524_000;
-/// Moves of a walk by an engine; a survey may end before.
-const WALKED: usize = 1 << 20;
 
 /// Twenty counts from 2 to 12, and twenty odd ones for the disk engine.
 const MIXED: [u8; 20] = [7, 2, 12, 5, 3, 9, 2, 10, 4, 6, 8, 3, 11, 5, 4, 7, 6, 10, 9, 8];
@@ -91,8 +89,22 @@ const MOVES: Unit = Unit {
 /// How long to measure.
 struct Bench {
     rounds: usize,
+    /// Of each side in each round.
     least: Duration,
+    /// Moves of a walk by an engine; a survey may end before.
+    walked: usize,
 }
+
+const WHOLE: Bench = Bench {
+    rounds: 15,
+    least: Duration::from_millis(25),
+    walked: 1 << 20,
+};
+const QUICK: Bench = Bench {
+    rounds: 3,
+    least: Duration::from_millis(3),
+    walked: 1 << 17,
+};
 
 /// A batch of work of one side.
 type Work<'a> = &'a mut dyn FnMut();
@@ -311,9 +323,9 @@ fn log_read_row(bench: &Bench, survey: &Survey) {
 
 /// A row of an engine: ours, plain Rust call by call, and as one run.
 fn engine_row(bench: &Bench, survey: &Survey, sides: [Writer; 3]) {
-    let (_, moves) = alike(WALKED, &sides);
+    let (_, moves) = alike(bench.walked, &sides);
     let mut works = sides.map(|walk| {
-        let mut out = vec![0; WALKED];
+        let mut out = vec![0; bench.walked];
         move || {
             let _ = black_box(walk(black_box(&mut out)));
         }
@@ -431,17 +443,11 @@ impl Table {
 }
 
 fn main() -> ExitCode {
-    let mut bench = Bench {
-        rounds: 15,
-        least: Duration::from_millis(25),
-    };
+    let mut bench = WHOLE;
     let mut wanted = vec![];
     for arg in std::env::args().skip(1) {
         if arg == "--quick" {
-            bench = Bench {
-                rounds: 3,
-                least: Duration::from_millis(3),
-            };
+            bench = QUICK;
         } else if TABLES.iter().any(|table| table.name == arg) {
             wanted.push(arg);
         } else {

@@ -62,9 +62,9 @@ impl Disks {
         digits & (self.turn < m) & self.pegs[..n].iter().fold(true, |ok, &peg| ok & (peg <= m))
     }
 
-    /// The index of the disk that moves, where one can: the smallest on the pair of pegs, or disk 1 and then the smallest elsewhere.
-    /// The search goes by indices: made from iterators over the arrays it runs on vectors, which have to wait for the byte that the
-    /// call before has stored, and takes three times as long.
+    /// The index of the disk that moves, where one can: the smallest on the pair of pegs, or disk 1 and then the smallest
+    /// elsewhere. The search goes by indices: made from iterators over the arrays it runs on vectors where there are 32 disks or
+    /// more, has to wait for the byte that the call before has stored, and takes several times as long.
     #[inline]
     fn chosen(&self) -> Option<usize> {
         if self.odd() {

@@ -1,8 +1,8 @@
--- `gray::move_byte` meets its contract. Assumes nothing.
-use Rattle.gray.proofs.Laws.{packed}
+-- `digit::move_byte` meets its contract. Assumes nothing.
+use Rattle.digit.proofs.Laws.{packed}
 use borrow.Author.Needs.{needs}
-use Rattle.gray.proofs.move_byte.Statement.{statement}
-use Rattle.gray.proofs.move_byte.Tie as tie
+use Rattle.digit.proofs.move_byte.Statement.{statement}
+use Rattle.digit.proofs.move_byte.Tie as tie
 
 cast-result : tie.Need-cast-result
 cast-result c = search needs

@@ -3,7 +3,7 @@ use Prim.Native.Nat.{ℕ}
 use mathlib.Core.Path.{_≡_, ap}
 use mathlib.Core.Bool.{Bool, true, false, cond}
 use Rattle.gray_theory.specs.Directions.{movedFrom, turnedAt, digitInRange}
-use Rattle.gray.specs.declared.Directed.{Directed}
+use Rattle.digit.specs.declared.Directed.{Directed}
 
 -- a digit in range moves, and turns where it must; one that is not stays as it came
 unfoldable pub advancedFrom : ℕ → ℕ → Bool → Directed

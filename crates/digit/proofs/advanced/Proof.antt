@@ -1,4 +1,4 @@
--- `gray::advanced` meets its contract: a digit in range has a notch to move to. Assumes nothing.
+-- `digit::advanced` meets its contract: a digit in range has a notch to move to. Assumes nothing.
 use mathlib.Core.Path.{_≡_, sym, ap, _∙_}
 use mathlib.Core.Bool.{true}
 use mathlib.Core.Logic.{⊎-elim}
@@ -7,10 +7,10 @@ use borrow.Author.Needs.{needs}
 use borrow.Author.Tests.{not-true, not-false}
 use Rattle.gray_theory.specs.Directions.{movedFrom, digitInRange}
 use Rattle.gray_theory.specs.DigitRanges.{digit-says}
-use Rattle.gray.specs.Advances.{digit-stays}
-use Rattle.gray.proofs.Laws.{room-below, room-above, advance-made}
-use Rattle.gray.proofs.advanced.Statement.{statement}
-use Rattle.gray.proofs.advanced.Tie as tie
+use Rattle.digit.specs.Advances.{digit-stays}
+use Rattle.digit.proofs.Laws.{room-below, room-above, advance-made}
+use Rattle.digit.proofs.advanced.Statement.{statement}
+use Rattle.digit.proofs.advanced.Tie as tie
 
 digit-in-range-requires : tie.Need-digit-in-range-requires
 digit-in-range-requires c κs = search needs

@@ -1,4 +1,4 @@
--- `gray::reversed` meets its contract: after i turns the i fastest digits stand at the start. Assumes nothing.
+-- `digit::reversed` meets its contract: after i turns the i fastest digits stand at the start. Assumes nothing.
 use Prim.Native.Nat.{_-_, _≤_, _<_}
 use mathlib.Core.Path.{_≡_, refl}
 use mathlib.Core.List.{_++_}
@@ -6,9 +6,9 @@ use native.Mathlib.Omega.{arith}
 use lib.ListN.{length, take, replicate, length-reverse}
 use Rattle.gray_theory.specs.Radices.{digits}
 use Rattle.gray_theory.specs.Filled.{fill-more}
-use Rattle.gray.proofs.Laws.{goes-on, ends, fill-ended, digit-at}
-use Rattle.gray.proofs.reversed.Statement.{statement}
-use Rattle.gray.proofs.reversed.Tie as tie
+use Rattle.digit.proofs.Laws.{goes-on, ends, fill-ended, digit-at}
+use Rattle.digit.proofs.reversed.Statement.{statement}
+use Rattle.digit.proofs.reversed.Tie as tie
 
 abbrev Inv-loop : tie.InvT-loop
 Inv-loop bytes out₀ n i₀ out i =

@@ -1,4 +1,4 @@
--- `gray::digit_in_range` meets its contract: the top notch of a radix m is m − 1, of a radix 0 it is 0. Assumes nothing.
+-- `digit::digit_in_range` meets its contract: the top notch of a radix m is m − 1, of a radix 0 it is 0. Assumes nothing.
 use Prim.Native.Nat.{_-_}
 use mathlib.Core.Path.{_≡_, sym, ap, _∙_}
 use mathlib.Core.Bool.{_&&_, not, and-assoc}
@@ -6,8 +6,8 @@ use mathlib.Core.Logic.{⊎-elim}
 use native.Mathlib.Omega.{arith}
 use borrow.Author.Needs.{needs}
 use lib.Dec.{eqb, ltb}
-use Rattle.gray.proofs.digit_in_range.Statement.{statement}
-use Rattle.gray.proofs.digit_in_range.Tie as tie
+use Rattle.digit.proofs.digit_in_range.Statement.{statement}
+use Rattle.digit.proofs.digit_in_range.Tie as tie
 
 sub-top : tie.Need-sub-top
 sub-top c = search needs

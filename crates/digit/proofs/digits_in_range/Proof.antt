@@ -1,4 +1,4 @@
--- `gray::digits_in_range` meets its contract: after i turns the first i digits are tested. Assumes nothing.
+-- `digit::digits_in_range` meets its contract: after i turns the first i digits are tested. Assumes nothing.
 use Prim.Native.Nat.{_-_, _≤_}
 use mathlib.Core.Path.{_≡_}
 use native.Mathlib.Omega.{arith}
@@ -6,9 +6,9 @@ use borrow.Author.Needs.{needs}
 use lib.ListN.{length}
 use Rattle.gray_theory.specs.Directions.{digitsInRange}
 use Rattle.gray_theory.specs.DigitRanges.{tested-none, tested-more, tested-all}
-use Rattle.gray.proofs.Laws.{lengths-differ, lengths-same, word-tested}
-use Rattle.gray.proofs.digits_in_range.Statement.{statement}
-use Rattle.gray.proofs.digits_in_range.Tie as tie
+use Rattle.digit.proofs.Laws.{lengths-differ, lengths-same, word-tested}
+use Rattle.digit.proofs.digits_in_range.Statement.{statement}
+use Rattle.digit.proofs.digits_in_range.Tie as tie
 
 abbrev Inv-loop : tie.InvT-loop
 Inv-loop radices word downs n ok₀ i₀ ok i = (i ≤ length radices) × (ok ≡ digitsInRange i radices word downs)

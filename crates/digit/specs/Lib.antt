@@ -1,0 +1,2 @@
+-- What needs this crate's types.
+pub mod Advances
