@@ -47,12 +47,14 @@ fn put_walk(walk: Walk, out: &mut [u8]) -> usize
 pub fn walk_moves(radices: &[u8], capacity: usize, out: &mut [u8]) -> Written
     ensures { λ r. ⌜ Wrote (walkMovesCall (now (radices .entry)) capacity) (writtenAs r) (now (out .entry)) (now (out .exit)) ⌝ }
 {
-    let opened = Walk::closed().open(radices, capacity);
+    let closed = Walk::closed();
+    let opened = closed.open(radices, capacity);
     let answer = opened.answer;
     let Opening::Open = answer else {
         return Written::Refused(number(answer));
     };
-    Written::Bytes(put_walk(opened.walk, out))
+    let fresh = opened.walk;
+    Written::Bytes(put_walk(fresh, out))
 }
 
 // The same for the disk engine.
@@ -77,10 +79,12 @@ fn put_disks(towers: Towers, out: &mut [u8]) -> usize
 pub fn disk_moves(radices: &[u8], out: &mut [u8]) -> Written
     ensures { λ r. ⌜ Wrote (diskMovesCall (now (radices .entry))) (writtenAs r) (now (out .entry)) (now (out .exit)) ⌝ }
 {
-    let opened = Towers::closed().open(radices);
+    let closed = Towers::closed();
+    let opened = closed.open(radices);
     let answer = opened.answer;
     let Opening::Open = answer else {
         return Written::Refused(number(answer));
     };
-    Written::Bytes(put_disks(opened.towers, out))
+    let fresh = opened.towers;
+    Written::Bytes(put_disks(fresh, out))
 }

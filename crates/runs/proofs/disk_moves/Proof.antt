@@ -56,7 +56,7 @@ returns-2 : tie.Need-returns-2
 unfolding diskMovesCall
 returns-2 c =
     let put = c .before .before in
-    let told = put .before .before in
+    let told = put .before .before .before in
     let began = told .before .before in
     let a = began .before .before .before .before .args in
     run-stepped stepOf (openOf closedTowers (a .radices .now)) _ _ _ _
