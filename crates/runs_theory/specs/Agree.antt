@@ -112,8 +112,8 @@ walk-moves-are-the-lists radices c room accepted places =
       stops = λ j h rest. ap (λ (a : Answer Event). moveThen a rest) (walks .end j h);
     })
 
--- Whatever its capacity, it writes moves of the list, from the first on without a gap: the first d − 1, where call d, at the most
--- call N, is the end or dry.
+-- Whatever its capacity, it writes moves of the list, from the first on without a gap: the first d − 1, or as many of them as there is
+-- room for, with a d from 1 to N. This alone does not say which d: demand 3 does, where call d is the end or dry.
 pub walk-moves-begin-the-list : (radices : List ℕ) (c : ℕ)
     → ahead.openOf ahead.closedWalk radices c .answer ≡ given tt
     → (d : ℕ)
