@@ -1,61 +1,142 @@
 -- What a stage of the range rule or of an opening says, over plain lists and numbers. Assumes nothing.
 use Prim.Native.Nat.{ℕ, _+_, _≤_, _<_}
 use native.Mathlib.Omega.{arith}
-use mathlib.Core.Path.{_≡_, sym, ap, ap₂, _∙_}
-use mathlib.Core.Bool.{Bool, true, false, _&&_, not, and-true, and-false, and-assoc}
+use mathlib.Core.Path.{_≡_, refl, sym, ap, ap₂, _∙_}
+use mathlib.Core.Bool.{Bool, true, false, _&&_, not, and-false}
 use mathlib.Core.List.{List, [], _∷_}
 use borrow.Author.Tests.{le-leb, lt-leb}
 use lib.Dec.{ltb, leb}
 use lib.ListN.{length, getD, take, length-reverse, List·getD-append}
-use lib.Seq.{length-take-le, getD-take, getD-at}
+use lib.Seq.{length-take-le, getD-take, getD-at, take-all}
 use Rattle.gray_theory.specs.Answers.{given, refused, refusing, isGiven}
-use Rattle.gray_theory.specs.Radices.{digits, size}
+use Rattle.gray_theory.specs.Radices.{digits, size, allFrom}
+use Rattle.gray_theory.specs.Locks.{MovingDigits, unlocked, movingDigits, movingInRange}
+use Rattle.gray_theory.specs.Unlocked.{unlocked-two, unlocked-most, all-unlocked, moving-says, lookedUp, number-at, number-direct, moving-looked-up}
 use Rattle.gray_theory.specs.Directions.{allBelow, digitsInRange}
+use Rattle.gray_theory.specs.DigitRanges.{allBelow-same, tested-more}
 use Rattle.gray_theory.specs.Calls.{sizeCall}
-use Rattle.gray_theory.specs.Arrays.{digitArray}
-use Rattle.gray_theory.specs.Filled.{digit-array}
-use Rattle.gray_theory.specs.Refusals.{accepted, radices-accepted, survey-accepted, survey-two, given-unless}
+use Rattle.gray_theory.specs.Arrays.{digitArray, filled}
+use Rattle.gray_theory.specs.Filled.{digit-array, take-filled, length-filled}
+use Rattle.gray_theory.specs.Refusals.{accepted, radices-accepted, survey-accepted, given-unless}
 use Rattle.gray_theory.specs.Engines.{refusedWith}
 use Rattle.gray_theory.specs.Capacities.{wrongCapacity}
-use Rattle.ahead_theory.specs.States.{Walk, openCheck, survey, places, isPlace, counterInRange, entriesInRange, producerInRange, stepLimit, inRange}
+use Rattle.ahead_theory.specs.States.{Walk, openCheck, survey, movingRadices, places, isPlace, counterInRange, entriesInRange, producerInRange, stepLimit, inRange}
 use Rattle.ahead_theory.specs.Calls.{freshWith, fresh, openWith, openOf}
-use Rattle.ahead.specs.declared.Progress.{Progress}
-use Rattle.ahead.specs.Stages.{assembled, Radices}
+use Rattle.ahead_theory.specs.InRange.{Arrays, Ranged, survey-openable}
+use Rattle.ahead.specs.Stages.{Numbers, Numbered, movingOf, Survey, Known}
 
--- ---- the counter's radices
-module _ (l : List ℕ) (n : ℕ) (room : n ≤ length l) where
-  pub radix-place : (i : ℕ) → i < n → getD (places (take n l)) i 0 ≡ getD l i 0
-  radix-place i h =
-      let long = length-take-le n l room in
-      List·getD-append (take n l) (2 ∷ []) 0 i (omega arith) ∙ getD-take n l i 0 h
+-- ---- a state whose survey and digits that move are tested
+pub ranged-known : (w : Walk) → Ranged w → Known w
+ranged-known w s = record { most = s .most; one = survey-openable w s .survey .one; moving = s .moving }
 
-  pub last-place : getD (places (take n l)) n 0 ≡ 2
-  last-place = getD-at (take n l) 2 [] 0 n (length-take-le n l room)
+module _ (w : Walk) (a : Arrays w) (k : Known w) where
+  room : w .n ≤ length (w .radices)
+  room = let most = k .most in let long = a .radices in omega arith
 
--- ---- the producer
-module _ (l : List ℕ) (n c : ℕ) (counter queue : List ℕ) (at : Progress) where
-  pub queue-over : c < at .queued → false ≡ producerInRange (take n l) c (assembled counter queue at)
-  unfolding producerInRange
-  queue-over h =
-      let ms = take n l in
-      let others = counterInRange ms counter && isPlace ms (at .place) && entriesInRange ms (at .queued) queue in
-      sym (ap (λ t. others && t) (lt-leb (at .queued) c h) ∙ and-false others)
+  survey-long : length (survey w) ≡ w .n
+  survey-long = length-take-le (w .n) (w .radices) room
 
-  pub producer-tested : (counted place entries : Bool)
-      → n ≤ length l
-      → at .queued ≤ c
-      → counted ≡ counterInRange (take n l) counter
-      → place ≡ leb 1 (at .place) && leb (at .place) (n + 1)
-      → entries ≡ allBelow (at .queued) (λ i. leb 1 (getD queue i 0) && leb (getD queue i 0) (n + 1))
-      → counted && (place && entries) ≡ producerInRange (take n l) c (assembled counter queue at)
-  unfolding producerInRange
-  producer-tested counted place entries room h e f g =
-      let long = sym (length-take-le n l room) in
-      let f' = f ∙ ap (λ k. leb 1 (at .place) && leb (at .place) (k + 1)) long in
-      let g' = g ∙ ap (λ k. allBelow (at .queued) (λ i. leb 1 (getD queue i 0) && leb (getD queue i 0) (k + 1))) long in
-      sym (and-assoc counted place entries)
-      ∙ sym (and-true (counted && place && entries))
-      ∙ ap₂ _&&_ (ap₂ _&&_ (ap₂ _&&_ e f') g') (sym (le-leb (at .queued) c h))
+  held : length (survey w) ≤ length (w .moving .digits)
+  held = let long = survey-long in let most = k .most in let moving = a .moving in omega arith
+
+  pub moving-count : w .moving .count ≡ length (movingRadices w)
+  moving-count = moving-says (survey w) (w .moving) (k .moving) .count
+
+  pub moving-most : w .moving .count ≤ 48
+  moving-most =
+      let many = moving-count in
+      let few = unlocked-most (survey w) in
+      let long = survey-long in
+      let most = k .most in
+      omega arith
+
+  number-here : (i : ℕ) → i < w .moving .count → (1 ≤ getD (w .moving .digits) i 0) × (getD (w .moving .digits) i 0 ≤ 48)
+  number-here i h =
+      let (o, number, inside, radix) = number-at (w .radices) (w .n) (w .moving) room held (k .one) (k .moving) i h in
+      let most = k .most in
+      (omega arith, omega arith)
+
+  pub moving-numbered : Numbered (w .moving .digits) (w .n) (w .moving .count)
+  moving-numbered =
+      record {
+        held = a .moving;
+        most = moving-most;
+        from-one = λ i h. number-here i h .0;
+        last = λ i h. number-here i h .1;
+        direct = λ all i h. number-direct (w .radices) (w .n) (w .moving) room held (k .one) (k .moving) all i (omega arith);
+      }
+
+  pub moving-radices : movingOf (w .radices) (w .moving .digits) (w .moving .count) ≡ movingRadices w
+  moving-radices = moving-looked-up (w .radices) (w .n) (w .moving) room held (k .one) (k .moving)
+
+  pub moving-survey : Survey (w .radices) (w .moving .digits) (w .n) (w .moving .count)
+  moving-survey =
+      record { room = a .radices; moving = moving-numbered; two = ap (allFrom 2) moving-radices ∙ unlocked-two (survey w) }
+
+  -- the code lends the numbers up to their count, made a wide number
+  module _ (count : ℕ) (wide : count ≡ w .moving .count) where
+    taken : length (take count (w .moving .digits)) ≡ w .moving .count
+    taken =
+        let most = moving-most in
+        let long = a .moving in
+        length-take-le count (w .moving .digits) (omega arith) ∙ wide
+
+    pub moving-numbers : Numbers (w .radices) (take count (w .moving .digits))
+    moving-numbers =
+        let many = taken in
+        record {
+          room = a .radices;
+          from-one = λ i h. rw (getD-take count (w .moving .digits) i 0 (omega arith)) (number-here i (omega arith) .0);
+          last = λ i h. rw (getD-take count (w .moving .digits) i 0 (omega arith)) (number-here i (omega arith) .1);
+        }
+
+    -- ---- the counter
+    -- each place is tested against its radix, and the last against 2
+    counter-tested : (ok last : Bool)
+        → ok ≡ allBelow (length (movingRadices w)) (λ i. ltb (getD (w .producer .counter) i 0) (getD (movingRadices w) i 0))
+        → last ≡ ltb (getD (w .producer .counter) count 0) 2
+        → ok && last ≡ counterInRange (movingRadices w) (w .producer .counter)
+    counter-tested ok last e f =
+        let ms = movingRadices w in
+        let counter = w .producer .counter in
+        let place : ℕ → Bool = λ i. ltb (getD counter i 0) (getD (places ms) i 0) in
+        tested-more place ok last (length ms)
+        (e
+        ∙ allBelow-same (length ms) (λ i. ltb (getD counter i 0) (getD ms i 0)) place
+        (λ i h. ap (ltb (getD counter i 0)) (sym (List·getD-append ms (2 ∷ []) 0 i h))))
+        (f
+        ∙ ap₂ (λ j m. ltb (getD counter j 0) m) (wide ∙ moving-count) (sym (getD-at ms 2 [] 0 (length ms) refl)))
+
+    pub all-counted : (ok last : Bool)
+        → w .moving .count ≡ w .n
+        → ok ≡ allBelow (length (take (w .moving .count) (w .radices))) (λ i. ltb (getD (w .producer .counter) i 0) (getD (w .radices) i 0))
+        → last ≡ ltb (getD (w .producer .counter) count 0) 2
+        → ok && last ≡ counterInRange (movingRadices w) (w .producer .counter)
+    all-counted ok last all e f =
+        let counter = w .producer .counter in
+        let long = survey-long in
+        let every : movingRadices w ≡ survey w = all-unlocked (survey w) (sym moving-count ∙ all ∙ sym long) in
+        counter-tested ok last
+        (e
+        ∙ ap (λ k. allBelow k (λ i. ltb (getD counter i 0) (getD (w .radices) i 0))) (ap (λ k. length (take k (w .radices))) all ∙ long)
+        ∙ allBelow-same (w .n) (λ i. ltb (getD counter i 0) (getD (w .radices) i 0)) (λ i. ltb (getD counter i 0) (getD (survey w) i 0))
+        (λ i h. ap (ltb (getD counter i 0)) (sym (getD-take (w .n) (w .radices) i 0 h)))
+        ∙ ap (λ k. allBelow k (λ i. ltb (getD counter i 0) (getD (survey w) i 0))) (sym long)
+        ∙ ap (λ ms. allBelow (length ms) (λ i. ltb (getD counter i 0) (getD ms i 0))) (sym every))
+        f
+
+    pub moving-counted : (ok last : Bool)
+        → ok ≡ allBelow (length (take count (w .moving .digits)))
+        (λ i. ltb (getD (w .producer .counter) i 0) (getD (lookedUp (w .radices) (take count (w .moving .digits))) i 0))
+        → last ≡ ltb (getD (w .producer .counter) count 0) 2
+        → ok && last ≡ counterInRange (movingRadices w) (w .producer .counter)
+    moving-counted ok last e f =
+        let counter = w .producer .counter in
+        let looked : lookedUp (w .radices) (take count (w .moving .digits)) ≡ movingRadices w =
+        ap (movingOf (w .radices) (w .moving .digits)) wide ∙ moving-radices in
+        counter-tested ok last
+        (e ∙ ap₂ (λ k ms. allBelow k (λ i. ltb (getD counter i 0) (getD ms i 0))) (taken ∙ moving-count) looked)
+        f
 
 -- ---- an opening
 -- the checks once the radices are accepted
@@ -75,22 +156,28 @@ module _ (w : Walk) (l : List ℕ) (c : ℕ) where
   pub capacity-refused : (n : ℕ) → sizeCall l ≡ given n → wrongCapacity c ≡ true → refusedWith 5 w ≡ openOf w l c
   capacity-refused n e f = opening-refused 5 (sym (check-passed l c n e true f))
 
-  pub opening-given : (n : ℕ) (opened : Walk) (radices : List ℕ)
+  pub opening-given : (n : ℕ) (opened : Walk) (radices : List ℕ) (moving : MovingDigits)
       → sizeCall l ≡ given n
       → wrongCapacity c ≡ false
       → radices ≡ digitArray l
-      → opened ≡ freshWith radices (length l) c
+      → moving ≡ movingDigits (take 48 (take (length l) radices))
+      → opened ≡ freshWith radices (length l) moving c
       → record { state = opened; answer = given tt } ≡ openOf w l c
   unfolding openOf fresh
-  opening-given n opened radices e f g h =
-      let all = digit-array l (accepted l n e .most) in
-      let made : opened ≡ fresh (digits l) c = h ∙ ap₂ (λ t k. freshWith t k c) (g ∙ all) (sym (length-reverse l)) in
+  opening-given n opened radices moving e f g m h =
+      let most = accepted l n e .most in
+      let long = length-reverse l in
+      let all : radices ≡ filled 48 0 (digits l) = g ∙ digit-array l most in
+      let own : moving ≡ movingDigits (digits l) =
+      m
+      ∙ ap₂ (λ k t. movingDigits (take 48 (take k t))) (sym long) all
+      ∙ ap (λ t. movingDigits (take 48 t)) (take-filled 48 0 (digits l))
+      ∙ ap movingDigits (take-all 48 (digits l) (omega arith)) in
+      let made : opened ≡ fresh (digits l) c =
+      h ∙ ap₂ (λ t k. freshWith t k moving c) all (sym long) ∙ ap (λ v. freshWith (filled 48 0 (digits l)) (length (digits l)) v c) own in
       ap (λ t. record { state = t; answer = given tt }) made ∙ ap (openWith w (digits l) c) (sym (check-passed l c n e false f))
 
 -- what the stages that are passed say
-pub accepted-radices : (l : List ℕ) (n total : ℕ) → length l ≡ 48 → n ≤ 48 → sizeCall (take n l) ≡ given total → Radices l n
-accepted-radices l n total long h e = record { room = long; most = h; two = survey-two (take n l) total e }
-
 module _ (w : Walk) where
   pub digits-over : 48 < w .n → false ≡ inRange w
   unfolding inRange
@@ -100,21 +187,59 @@ module _ (w : Walk) where
   unfolding inRange
   not-open e = sym (rw (e, and-false (leb (w .n) 48)))
 
-  pub state-tested : (total : ℕ) (notches ahead bounds : Bool)
-      → w .n ≤ 48
+  pub moving-fail : movingInRange (survey w) (w .moving) ≡ false → false ≡ inRange w
+  unfolding inRange
+  moving-fail e =
+      let before = leb (w .n) 48 && isGiven (openCheck (survey w) (w .capacity)) && digitsInRange (w .n) (w .radices) (w .word) (w .downs) in
+      sym (rw (e, and-false before))
+
+  pub queue-over : w .capacity < w .producer .queued → false ≡ inRange w
+  unfolding inRange producerInRange
+  queue-over h =
+      let ms = movingRadices w in
+      let others = counterInRange ms (w .producer .counter) && isPlace ms (w .producer .place) && entriesInRange ms (w .producer .queued) (w .producer .queue) in
+      let over : others && leb (w .producer .queued) (w .capacity) ≡ false =
+      ap (λ t. others && t) (lt-leb (w .producer .queued) (w .capacity) h) ∙ and-false others in
+      let before =
+      leb (w .n) 48 && isGiven (openCheck (survey w) (w .capacity)) && digitsInRange (w .n) (w .radices) (w .word) (w .downs) && movingInRange (survey w) (w .moving) in
+      sym (rw (over, and-false before))
+
+  -- the last stage gathers what is left
+  pub state-tested : (total : ℕ) (notches counted place entries bounds : Bool)
+      → Arrays w
+      → Known w
       → isGiven (openCheck (survey w) (w .capacity)) ≡ true
-      → notches ≡ digitsInRange (w .n) (w .radices) (w .word) (w .downs)
-      → ahead ≡ producerInRange (survey w) (w .capacity) (w .producer)
+      → w .producer .queued ≤ w .capacity
+      → notches ≡ digitsInRange (length (take (w .n) (w .radices))) (w .radices) (w .word) (w .downs)
+      → counted ≡ counterInRange (movingRadices w) (w .producer .counter)
+      → place ≡ leb 1 (w .producer .place) && leb (w .producer .place) (w .moving .count + 1)
+      → entries ≡ allBelow (w .producer .queued)
+      (λ i. leb 1 (getD (w .producer .queue) i 0) && leb (getD (w .producer .queue) i 0) (w .moving .count + 1))
       → total ≡ size (survey w)
       → bounds ≡ ltb (w .moves) total && leb (w .producer .steps) (stepLimit (w .moves) (w .ended))
-      → notches && (ahead && bounds) ≡ inRange w
-  unfolding inRange
-  state-tested total notches ahead bounds h e f g t b =
-      let limit = leb (w .producer .steps) (stepLimit (w .moves) (w .ended)) in
+      → (notches && counted) && ((place && entries) && bounds) ≡ inRange w
+  unfolding inRange producerInRange
+  state-tested total notches counted place entries bounds a k opens fits f g p q t b =
+      let ms = movingRadices w in
+      let many = moving-count w a k in
+      let digits = digitsInRange (w .n) (w .radices) (w .word) (w .downs) in
+      let counters = counterInRange ms (w .producer .counter) in
+      let at = isPlace ms (w .producer .place) in
+      let held = entriesInRange ms (w .producer .queued) (w .producer .queue) in
       let short = ltb (w .moves) (size (survey w)) in
-      let first = digitsInRange (w .n) (w .radices) (w .word) (w .downs) && producerInRange (survey w) (w .capacity) (w .producer) in
-      let tested : notches && (ahead && bounds) ≡ first && short && limit =
-      sym (and-assoc notches ahead bounds)
-      ∙ ap₂ _&&_ (ap₂ _&&_ f g) (b ∙ ap (λ k. ltb (w .moves) k && limit) t)
-      ∙ sym (and-assoc first short limit) in
-      rw (le-leb (w .n) 48 h, e) tested
+      let limit = leb (w .producer .steps) (stepLimit (w .moves) (w .ended)) in
+      let f' : notches ≡ digits = f ∙ ap (λ i. digitsInRange i (w .radices) (w .word) (w .downs)) (survey-long w a k) in
+      let p' : place ≡ at = p ∙ ap (λ i. leb 1 (w .producer .place) && leb (w .producer .place) (i + 1)) many in
+      let q' : entries ≡ held =
+      q
+      ∙ ap (λ i. allBelow (w .producer .queued) (λ j. leb 1 (getD (w .producer .queue) j 0) && leb (getD (w .producer .queue) j 0) (i + 1))) many in
+      let b' : bounds ≡ short && limit = b ∙ ap (λ i. ltb (w .moves) i && limit) t in
+      rw (le-leb (w .n) 48 (k .most), opens, k .moving, le-leb (w .producer .queued) (w .capacity) fits, f', g, p', q', b')
+      (regrouped digits counters at held short limit)
+    where
+      regrouped : (d c a e s l : Bool) → (d && c) && ((a && e) && (s && l)) ≡ d && true && (c && a && e && true) && s && l
+      regrouped true true true true s l = refl
+      regrouped true true true false s l = refl
+      regrouped true true false e s l = refl
+      regrouped true false a e s l = refl
+      regrouped false c a e s l = refl

@@ -2,97 +2,137 @@
 use Prim.Native.Nat.{ℕ, _+_, _-_, _≤_, _<_}
 use native.Mathlib.Omega.{arith}
 use mathlib.Core.Path.{_≡_, sym, ap, ap₂, subst, _∙_}
-use mathlib.Core.Bool.{Bool, true, false, cond, _&&_}
+use mathlib.Core.Bool.{Bool, true, false, cond, _&&_, and-eq-true-iff}
 use mathlib.Core.List.{List, [], _∷_, _++_}
-use borrow.Author.Tests.{lt-ltb, le-ltb, eq-eqb, ne-eqb}
-use lib.Dec.{eqb}
-use lib.ListN.{length, getD, set, take, drop}
-use lib.Seq.{length-take-le}
+use borrow.Author.Tests.{lt-ltb, le-ltb, le-leb, eq-eqb, ne-eqb}
+use lib.Dec.{eqb, leb}
+use lib.ListN.{length, getD, set, take, drop, length-map, List·getD-append}
+use lib.Seq.{length-take-le, getD-take, getD-at}
 use Rattle.gray_theory.specs.Answers.{given}
+use Rattle.gray_theory.specs.Unlocked.{looked-up-at}
 use Rattle.gray_theory.specs.Directions.{digitInRange}
 use Rattle.digit.specs.Advances.{advancedFrom, digit-advanced}
 use Rattle.gray_theory.specs.Engines.{moved, ended, refusedWith}
 use Rattle.gray_theory.specs.DigitRanges.{allBelow-each}
 use Rattle.digit.specs.declared.Directed.{Directed}
-use Rattle.ahead_theory.specs.States.{Producer, Walk, survey, places, inRange}
+use Rattle.ahead_theory.specs.States.{Producer, Walk, movingRadices, places, inRange}
 use Rattle.ahead_theory.specs.Work.{countAt, radixAt, runOut, done, work}
 use Rattle.ahead_theory.specs.Calls.{twice, course, removing, dequeued, endOf, moveOf, stepBy, stepOf}
-use Rattle.ahead_theory.specs.InRange.{place-two, producer-says, runs-out, carries-on, appends-one, stays-full, count-grows, Ranged, survey-openable, survey-long, Reached, reached-more}
-use Rattle.ahead_theory.specs.Kept.{goes-faulty, goes-over, goes-dry, goes-removing, removes-last, removes-digit}
+use Rattle.ahead_theory.specs.InRange.{place-two, producer-says, runs-out, carries-on, appends-one, stays-full, count-grows, Arrays, Ranged, survey-openable, ranged-moving, Reached, reached-more}
+use Rattle.ahead_theory.specs.Kept.{goes-faulty, goes-over, goes-dry, goes-removing, removes-last, removes-digit, entry-digit}
 use Rattle.ahead.specs.declared.Progress.{Progress}
-use Rattle.ahead.specs.Stages.{assembled, Workable, Movable}
+use Rattle.ahead.specs.Stages.{assembled, Numbered, movingOf, Survey, Workable, Movable}
+use Rattle.ahead.proofs.Ranges.{ranged-known, moving-count, moving-most, moving-radices, moving-survey}
 
 -- ---- work
-module _ (radices : List ℕ) (n c : ℕ) (counter queue : List ℕ) (at : Progress) (ok : Workable radices n c counter queue at) where
-  taken-long : length (take n radices) ≡ n
-  taken-long = length-take-le n radices (omega arith)
+-- as many radices as numbers
+pub moving-long : (radices numbers : List ℕ) (n count : ℕ) → Numbered numbers n count → length (movingOf radices numbers count) ≡ count
+moving-long radices numbers n count ok =
+    let many = ok .held in
+    let most = ok .most in
+    length-map (take count numbers) (λ d. getD radices (d - 1) 0) ∙ length-take-le count numbers (omega arith)
 
-  pub radix-pos : (m : ℕ) → m ≡ getD (places (take n radices)) (at .place - 1) 0 → 1 ≤ m
-  radix-pos m e =
-      let long = taken-long in
-      let two = place-two (take n radices) (at .place - 1) (ok .survey .two) (omega arith) in
-      omega arith
+-- the radix at a place of the counter: the last is 2, any other is looked up
+module _ (radices numbers : List ℕ) (n count : ℕ) (ok : Survey radices numbers n count) (place : ℕ) where
+  pub radix-last : place ≡ count + 1 → 2 ≡ getD (places (movingOf radices numbers count)) (place - 1) 0
+  radix-last at =
+      let long = moving-long radices numbers n count (ok .moving) in
+      sym (getD-at (movingOf radices numbers count) 2 [] 0 (place - 1) (omega arith))
 
-  -- the code reads the count at the place made a wide number, and asks for the radix there
-  abbrev before : Producer
-  before = assembled counter queue at
+  module _ (low : 1 ≤ place) (high : place ≤ count) (number : ℕ) (is : number ≡ getD numbers (place - 1) 0) where
+    pub number-fits : (1 ≤ number) × (number ≤ 48)
+    number-fits =
+        let first = ok .moving .from-one (place - 1) (omega arith) in
+        let last = ok .moving .last (place - 1) (omega arith) in
+        (omega arith, omega arith)
 
-  abbrev after : Producer
-  after = work (take n radices) c before
+    pub radix-moving : getD radices (number - 1) 0 ≡ getD (places (movingOf radices numbers count)) (place - 1) 0
+    radix-moving =
+        let long = moving-long radices numbers n count (ok .moving) in
+        let held = ok .moving .held in
+        let most = ok .moving .most in
+        let part = length-take-le count numbers (omega arith) in
+        sym
+        (List·getD-append (movingOf radices numbers count) (2 ∷ []) 0 (place - 1) (omega arith)
+        ∙ looked-up-at radices (take count numbers) (place - 1) (omega arith)
+        ∙ ap (λ k. getD radices (k - 1) 0) (getD-take count numbers (place - 1) 0 (omega arith) ∙ sym is))
 
-  module _ (place : ℕ) (wide : place ≡ at .place) where
-    abbrev count : ℕ
-    count = getD counter (place - 1) 0
+module _
+    (radices numbers : List ℕ) (n count c : ℕ) (counter queue : List ℕ) (at : Progress)
+    (ok : Workable radices numbers n count c counter queue at)
+  where
+    abbrev ms : List ℕ
+    ms = movingOf radices numbers count
 
-    out-test : (eqb (at .place) (n + 1) && eqb count 1) ≡ runOut (take n radices) before
-    out-test = rw (wide, taken-long)
+    ms-long : length ms ≡ count
+    ms-long = moving-long radices numbers n count (ok .survey .moving)
 
-    pub run-out-idle : (eqb (at .place) (n + 1) && eqb count 1) ≡ true → before ≡ after
-    unfolding done
-    run-out-idle out = sym (ap (λ k. done k before) (runs-out (take n radices) c before (sym out-test ∙ out)))
+    pub radix-pos : (m : ℕ) → m ≡ getD (places ms) (at .place - 1) 0 → 1 ≤ m
+    radix-pos m e =
+        let long = ms-long in
+        let two = place-two ms (at .place - 1) (ok .survey .two) (omega arith) in
+        omega arith
 
-    module _
-        (m : ℕ)
-        (goes-on : (eqb (at .place) (n + 1) && eqb count 1) ≡ false)
-        (radix : m ≡ getD (places (take n radices)) (at .place - 1) 0)
-      where
-        top-test : eqb count (m - 1) ≡ eqb (countAt before) (radixAt (take n radices) before - 1)
-        top-test = rw (wide, radix)
+    -- the code reads the count at the place made a wide number, and asks for the radix there
+    abbrev before : Producer
+    before = assembled counter queue at
 
-        pub carried : count ≡ m - 1
-            → assembled (set counter (place - 1) 0) queue
-            (record { place = at .place + 1; queued = at .queued; steps = at .steps + 1 })
-            ≡ after
-        unfolding done
-        carried top =
-            let now = carries-on (take n radices) c before (sym out-test ∙ goes-on) (sym top-test ∙ eq-eqb count (m - 1) top) in
-            rw wide (sym (ap (λ k. done k before) now))
+    abbrev after : Producer
+    after = work ms c before
 
-        module _ (more : count ≡ m - 1 → ⊥) where
-          not-top : eqb (countAt before) (radixAt (take n radices) before - 1) ≡ false
-          not-top = sym top-test ∙ ne-eqb count (m - 1) more
+    module _ (place : ℕ) (wide : place ≡ at .place) where
+      abbrev here : ℕ
+      here = getD counter (place - 1) 0
 
-          pub count-room : count + 1 < m
-          count-room =
-              let s = producer-says (take n radices) c before (ok .ranged) in
-              rw (wide, radix) (count-grows (take n radices) c before (ok .survey .two) s not-top)
+      out-test : (eqb (at .place) (count + 1) && eqb here 1) ≡ runOut ms before
+      out-test = rw (wide, ms-long)
 
-          pub appended : (queued : ℕ)
-              → queued ≡ at .queued
-              → at .queued < c
-              → assembled (set counter (place - 1) (count + 1)) (set queue queued (at .place))
-              (record { place = 1; queued = at .queued + 1; steps = at .steps + 1 })
+      pub run-out-idle : (eqb (at .place) (count + 1) && eqb here 1) ≡ true → before ≡ after
+      unfolding done
+      run-out-idle out = sym (ap (λ k. done k before) (runs-out ms c before (sym out-test ∙ out)))
+
+      module _
+          (m : ℕ)
+          (goes-on : (eqb (at .place) (count + 1) && eqb here 1) ≡ false)
+          (radix : m ≡ getD (places ms) (at .place - 1) 0)
+        where
+          top-test : eqb here (m - 1) ≡ eqb (countAt before) (radixAt ms before - 1)
+          top-test = rw (wide, radix)
+
+          pub carried : here ≡ m - 1
+              → assembled (set counter (place - 1) 0) queue
+              (record { place = at .place + 1; queued = at .queued; steps = at .steps + 1 })
               ≡ after
           unfolding done
-          appended queued same free =
-              let now = appends-one (take n radices) c before (sym out-test ∙ goes-on) not-top (lt-ltb (at .queued) c free) in
-              rw (wide, same) (sym (ap (λ k. done k before) now))
+          carried top =
+              let now = carries-on ms c before (sym out-test ∙ goes-on) (sym top-test ∙ eq-eqb here (m - 1) top) in
+              rw wide (sym (ap (λ k. done k before) now))
 
-          pub full-idle : c ≤ at .queued → before ≡ after
-          unfolding done
-          full-idle full =
-              let now = stays-full (take n radices) c before (sym out-test ∙ goes-on) not-top (le-ltb (at .queued) c full) in
-              sym (ap (λ k. done k before) now)
+          module _ (more : here ≡ m - 1 → ⊥) where
+            not-top : eqb (countAt before) (radixAt ms before - 1) ≡ false
+            not-top = sym top-test ∙ ne-eqb here (m - 1) more
+
+            pub count-room : here + 1 < m
+            count-room =
+                let s = producer-says ms c before (ok .ranged) in
+                rw (wide, radix) (count-grows ms c before (ok .survey .two) s not-top)
+
+            pub appended : (queued : ℕ)
+                → queued ≡ at .queued
+                → at .queued < c
+                → assembled (set counter (place - 1) (here + 1)) (set queue queued (at .place))
+                (record { place = 1; queued = at .queued + 1; steps = at .steps + 1 })
+                ≡ after
+            unfolding done
+            appended queued same free =
+                let now = appends-one ms c before (sym out-test ∙ goes-on) not-top (lt-ltb (at .queued) c free) in
+                rw (wide, same) (sym (ap (λ k. done k before) now))
+
+            pub full-idle : c ≤ at .queued → before ≡ after
+            unfolding done
+            full-idle full =
+                let now = stays-full ms c before (sym out-test ∙ goes-on) not-top (le-ltb (at .queued) c full) in
+                sym (ap (λ k. done k before) now)
 
 -- ---- advance
 -- the digit stands in range, so that the call moves it
@@ -111,6 +151,7 @@ module _ (w : Walk) (k : ℕ) (ok : Movable w k) (place : ℕ) (wide : place ≡
             record {
               radices = w .radices;
               n = w .n;
+              moving = w .moving;
               word = set (w .word) (place - 1) (to .digit);
               capacity = w .capacity;
               downs = set (w .downs) (place - 1) (to .down);
@@ -125,7 +166,11 @@ module _ (w : Walk) (k : ℕ) (ok : Movable w k) (place : ℕ) (wide : place ≡
   digit-moved to p e =
       let made =
       e
-      ∙ digit-advanced (getD (w .radices) (place - 1) 0) (getD (w .word) (place - 1) 0) (getD (w .downs) (place - 1) false) digit-ranged in
+      ∙ digit-advanced (getD (w .radices) (place - 1) 0) (getD (w .word) (place - 1) 0) (getD (w .downs) (place - 1) false)
+      (and-eq-true-iff (leb 2 (getD (w .radices) (place - 1) 0))
+      (digitInRange (getD (w .radices) (place - 1) 0) (getD (w .word) (place - 1) 0) (getD (w .downs) (place - 1) false))
+      .1
+      (le-leb 2 (getD (w .radices) (place - 1) 0) (rw wide (ok .two)), digit-ranged)) in
       rw (made, wide)
 
 -- ---- step
@@ -144,41 +189,53 @@ at-most-two : (ended : Bool) → cond ended 2 0 ≤ 2
 at-most-two true = omega arith
 at-most-two false = omega arith
 
-module _ (w : Walk) (s : Ranged w) (room : length (w .radices) ≡ 48) where
-  pub reached-by : (x : ℕ) (p q : Producer) → Reached w x p → q ≡ work (survey w) (w .capacity) p → Reached w (x + 1) q
-  reached-by x p q r e = subst (Reached w (x + 1)) (sym e) (reached-more w s room x p r)
+module _ (w : Walk) (s : Ranged w) (a : Arrays w) where
+  pub reached-by : (x : ℕ) (p q : Producer) → Reached w x p → q ≡ work (movingRadices w) (w .capacity) p → Reached w (x + 1) q
+  reached-by x p q r e = subst (Reached w (x + 1)) (sym e) (reached-more w s (a .radices) x p r)
 
   module _ (x : ℕ) (counter queue : List ℕ) (at : Progress) (r : Reached w x (assembled counter queue at)) where
-    pub workable : x ≤ 2 → Workable (w .radices) (w .n) (w .capacity) counter queue at
+    pub workable : x ≤ 2 → Workable (w .radices) (w .moving .digits) (w .n) (w .moving .count) (w .capacity) counter queue at
     workable h =
         let sound = survey-openable w s in
-        let long = survey-long w s room in
-        let here = producer-says (survey w) (w .capacity) (assembled counter queue at) (r .ahead) .at in
+        let known = ranged-known w s in
+        let many = moving-count w a known in
+        let here = producer-says (movingRadices w) (w .capacity) (assembled counter queue at) (r .ahead) .at in
         let two = at-most-two (w .ended) in
         record {
-          survey = record { room = room; most = s .most; two = sound .survey .two };
+          survey = moving-survey w a known;
+          most = moving-most w a known;
           long = r .counter;
           wide = r .queue;
           capacity = sound .capacity;
-          ranged = r .ahead;
+          ranged = rw (moving-radices w a known) (r .ahead);
           from-one = here .from-one;
           last = omega arith;
           small = omega arith;
         }
 
-    -- the oldest entry of a queue that holds one is a place, so that where it is not n + 1 it names a digit
-    pub movable : (at .queued ≡ 0 → ⊥) → (getD queue 0 0 ≡ w .n + 1 → ⊥) → Movable w (getD queue 0 0)
-    movable some other =
-        let sound = survey-openable w s in
-        let long = survey-long w s room in
-        let oldest = producer-says (survey w) (w .capacity) (assembled counter queue at) (r .ahead) .entries 0 (omega arith) in
-        record {
-          survey = record { room = room; most = s .most; two = sound .survey .two };
-          notches = s .notches;
-          from-one = oldest .from-one;
-          digit = omega arith;
-          small = omega arith;
-        }
+    -- the oldest entry of a queue that holds one is a place, so that where it is not the last it is turned back into a digit's number
+    module _ (some : at .queued ≡ 0 → ⊥) where
+      pub entry-pos : (1 ≤ getD queue 0 0) × (getD queue 0 0 ≤ length (movingRadices w) + 1)
+      entry-pos =
+          let oldest = producer-says (movingRadices w) (w .capacity) (assembled counter queue at) (r .ahead) .entries 0 (omega arith) in
+          (oldest .from-one, oldest .last)
+
+      pub movable : (getD queue 0 0 ≡ w .moving .count + 1 → ⊥) → (k : ℕ) → k ≡ getD (w .moving .digits) (getD queue 0 0 - 1) 0 → Movable w k
+      movable other k is =
+          let sound = survey-openable w s in
+          let many = ranged-moving w s .count in
+          let (low, high) = entry-pos in
+          let d = entry-digit w s a (getD queue 0 0) low (omega arith) in
+          rw is
+          (record {
+            room = a .radices;
+            most = s .most;
+            two = d .two;
+            notches = s .notches;
+            from-one = d .from-one;
+            digit = d .digit;
+            small = omega arith;
+          })
 
 -- what a call answers by the arrays and numbers that its two work steps leave
 module _
@@ -205,8 +262,13 @@ module _
       removes : course w ≡ removing
       removes = goes-removing w ranged going (λ none. some (ap (λ p. p .queued) left ∙ none))
 
-      pub ends : getD queue 0 0 ≡ w .n + 1 → endOf w shortened ≡ stepOf w
+      pub ends : getD queue 0 0 ≡ w .moving .count + 1 → endOf w shortened ≡ stepOf w
       ends last = ap (endOf w) is-dequeued ∙ sym (removes-last w removes (sym oldest ∙ last))
 
-      pub moves-digit : (getD queue 0 0 ≡ w .n + 1 → ⊥) → moveOf w (getD queue 0 0) shortened ≡ stepOf w
-      moves-digit other = ap₂ (moveOf w) oldest is-dequeued ∙ sym (removes-digit w removes (λ last. other (oldest ∙ last)))
+      pub moves-digit : (getD queue 0 0 ≡ w .moving .count + 1 → ⊥)
+          → (k : ℕ)
+          → k ≡ getD (w .moving .digits) (getD queue 0 0 - 1) 0
+          → moveOf w k shortened ≡ stepOf w
+      moves-digit other k is =
+          ap₂ (moveOf w) (is ∙ ap (λ o. getD (w .moving .digits) (o - 1) 0) oldest) is-dequeued
+          ∙ sym (removes-digit w removes (λ last. other (oldest ∙ last)))

@@ -1,5 +1,6 @@
 -- The structs as the theory's records, field by field: a state, and what the calls return, in document 01's terms.
 use Rattle.gray_theory.specs.Engines.{Event, Handed}
+use Rattle.digit.specs.Moving.{movingAs}
 use Rattle.gray.specs.Enums.{openingAs, steppingAs}
 use Rattle.ahead_theory.specs.States as theory
 use Rattle.ahead.specs.declared.Producer.{Producer}
@@ -22,6 +23,7 @@ walkAs w = record {
   moves = w .moves;
   radices = w .radices;
   n = w .n;
+  moving = movingAs (w .moving);
   word = w .word;
   capacity = w .capacity;
   downs = w .downs;

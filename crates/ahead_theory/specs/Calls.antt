@@ -7,18 +7,20 @@ use lib.ListN.{length, getD, drop, replicate}
 use Rattle.gray_theory.specs.Answers.{Answer, given, refused}
 use Rattle.gray_theory.specs.Radices.{digits}
 use Rattle.gray_theory.specs.Arrays.{filled}
+use Rattle.gray_theory.specs.Locks.{MovingDigits, movingDigits}
 use Rattle.gray_theory.specs.Directions.{wordMoved, downsMoved}
 use Rattle.gray_theory.specs.Engines.{Event, moved, ended, Handed, refusedWith}
-use Rattle.ahead_theory.specs.States.{Producer, Walk, survey, openCheck, inRange}
+use Rattle.ahead_theory.specs.States.{Producer, Walk, movingRadices, openCheck, inRange}
 use Rattle.ahead_theory.specs.Work.{work}
 
 -- ---- opening
 -- the fresh state of the n radices in an array: the setting all 0, directions all up, the counter all 0, place 1, an empty queue,
 -- no changes made, no useful steps, not ended
-abbrev pub freshWith : List ℕ → ℕ → ℕ → Walk
-freshWith radices n c = record {
+abbrev pub freshWith : List ℕ → ℕ → MovingDigits → ℕ → Walk
+freshWith radices n moving c = record {
   radices = radices;
   n = n;
+  moving = moving;
   word = replicate 48 0;
   capacity = c;
   downs = replicate 48 false;
@@ -28,7 +30,7 @@ freshWith radices n c = record {
 }
 
 unfoldable pub fresh : List ℕ → ℕ → Walk
-fresh ms c = freshWith (filled 48 0 ms) (length ms) c
+fresh ms c = freshWith (filled 48 0 ms) (length ms) (movingDigits ms) c
 
 -- the state of no survey
 abbrev pub closedWalk : Walk
@@ -45,10 +47,10 @@ openOf w radices c = openWith w (digits radices) c (openCheck (digits radices) c
 -- ---- one call
 -- the producer after the two work steps of a call
 abbrev pub once : Walk → Producer
-once w = work (survey w) (w .capacity) (w .producer)
+once w = work (movingRadices w) (w .capacity) (w .producer)
 
 abbrev pub twice : Walk → Producer
-twice w = work (survey w) (w .capacity) (once w)
+twice w = work (movingRadices w) (w .capacity) (once w)
 
 -- how a call goes: the state is out of range; the walk has ended already; the queue is empty at the removal, after the two work
 -- steps; or the oldest entry is removed
@@ -81,6 +83,7 @@ endOf w p = record {
       record {
         radices = w .radices;
         n = w .n;
+        moving = w .moving;
         word = w .word;
         capacity = w .capacity;
         downs = w .downs;
@@ -98,6 +101,7 @@ moveOf w k p = record {
       record {
         radices = w .radices;
         n = w .n;
+        moving = w .moving;
         word = wordMoved (w .word) (w .downs) (k - 1);
         capacity = w .capacity;
         downs = downsMoved (w .radices) (w .word) (w .downs) (k - 1);
@@ -108,9 +112,10 @@ moveOf w k p = record {
   answer = given (moved (record { digit = k; down = getD (w .downs) (k - 1) false }));
 }
 
--- the oldest entry k is removed: n + 1 ends the walk, any other moves its digit
+-- the oldest entry k is removed: one more than the digits that move ends the walk, any other is turned back into the number of
+-- its digit, which moves
 abbrev pub removalOf : Walk → ℕ → Producer → Handed Walk Event
-removalOf w k p = cond (eqb k (w .n + 1)) (endOf w p) (moveOf w k p)
+removalOf w k p = cond (eqb k (w .moving .count + 1)) (endOf w p) (moveOf w (getD (w .moving .digits) (k - 1) 0) p)
 
 abbrev pub stepBy : Walk → Course → Handed Walk Event
 stepBy w faulty = refusedWith 7 w

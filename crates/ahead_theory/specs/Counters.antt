@@ -1,6 +1,6 @@
 -- The counter of the producer: the mixed-radix digits of the entries finished, with the places cleared by carries.
 use Prim.Native.Nat.{ℕ, zero, suc, _+_, _-_, _*_, _/_, _%_, _≤_, _<_}
-use native.Mathlib.Nat.{zero-div, zero-mod, mod-lt, mul-comm}
+use native.Mathlib.Nat.{zero-div, zero-mod, mod-lt, mul-comm, mul-assoc, mul-mod-right, mul-div-cancel-left}
 use native.Mathlib.Numerals.{add-one}
 use native.Mathlib.Omega.{arith}
 use mathlib.Core.Path.{_≡_, refl, sym, ap, _∙_}
@@ -46,6 +46,17 @@ ruler-most (m ∷ ms) j = either (eqb (j % m) 0) (ruler-most ms (j / m))
     either : (b : Bool) {r : ℕ} → r ≤ suc (length ms) → cond b (suc r) 1 ≤ suc (suc (length ms))
     either true h = omega arith
     either false h = omega arith
+
+-- at every multiple of N it is n + 1
+pub ruler-at-multiple : (ms : List ℕ) → allFrom 1 ms ≡ true → (q : ℕ) → ruler ms (size ms * q) ≡ suc (length ms)
+unfolding allFrom size
+ruler-at-multiple [] e q = unfold ruler in refl
+ruler-at-multiple (m ∷ ms) e q =
+    let (first, others) = and-eq-true-iff (leb 1 m) (allFrom 1 ms) .0 e in
+    ap (ruler (m ∷ ms)) (mul-assoc m (size ms) q)
+    ∙ ruler-carry m ms (m * (size ms * q)) (mul-mod-right m (size ms * q))
+    ∙ ap (λ (n : ℕ). suc (ruler ms n)) (mul-div-cancel-left (size ms * q) (leb-true 1 m first))
+    ∙ ap suc (ruler-at-multiple ms others q)
 
 increment-places : (m : ℕ) (ms : List ℕ) (e : ℕ) → Increment m e
     → (suc e / m ≡ suc (e / m) → ruler (places ms) (suc (e / m)) ≡ ruler ms (suc (e / m)))

@@ -7,6 +7,7 @@ use mathlib.Core.List.{List, _∷_, _++_}
 use lib.ListN.{length}
 use Rattle.gray_theory.specs.Answers.{given, refused}
 use Rattle.gray_theory.specs.Radices.{size}
+use Rattle.gray_theory.specs.Locks.{unlocked}
 use Rattle.gray_theory.specs.Words.{member}
 use Rattle.gray_theory.specs.Costs.{cost}
 use Rattle.gray_theory.specs.Engines.{ended, Names}
@@ -63,15 +64,23 @@ pub record WorksAhead (ms : List ℕ) (c : ℕ) (w : Walk) : Type 0 where
   pub capacity : (t : ℕ) → Within c (state w t)
   pub step-formula : (t : ℕ) (before later : List Work)
       → events w t ≡ before ++ append ∷ later
-      → Finished ms before
-  pub counted : (t : ℕ) → t ≤ size ms → Accepting w t → StepsCounted ms w t
-  pub never-dry : length ms ≤ 2 * c → WalksTheList ms w
-  pub dry-within-N : 2 * c < length ms → (d : ℕ) × RunsDry ms w d
+      → Finished (unlocked ms) before
+  pub counted : (t : ℕ) → t ≤ size ms → Accepting w t → StepsCounted (unlocked ms) w t
+  pub never-dry : length (unlocked ms) ≤ 2 * c → WalksTheList ms w
+  pub dry-within-N : 2 * c < length (unlocked ms) → (d : ℕ) × RunsDry ms w d
 
--- besides: every state of the run is in range, so that no call gets 7, and no work step of it meets the idle rule at the last
--- place
+-- besides: every state of the run is in range, so that no call gets 7, and unless all digits are locked no work step of it meets
+-- the idle rule at the last place. With all locked the second work step of the first call does
 pub record StaysInRange (ms : List ℕ) (w : Walk) : Type 0 where
   pub in-range : (t : ℕ) → inRange (state w t) ≡ true
   pub never-7 : (j : ℕ) → answer w j ≡ refused 7 → ⊥
-  pub first : (t : ℕ) → state w t .ended ≡ false → runOut ms (state w t .producer) ≡ false
-  pub second : (t : ℕ) → state w t .ended ≡ false → runOut ms (once (state w t)) ≡ false
+  pub first : 0 < length (unlocked ms) → (t : ℕ) → state w t .ended ≡ false → runOut (unlocked ms) (state w t .producer) ≡ false
+  pub second : 0 < length (unlocked ms) → (t : ℕ) → state w t .ended ≡ false → runOut (unlocked ms) (once (state w t)) ≡ false
+  pub all-locked : length (unlocked ms) ≡ 0 → (runOut (unlocked ms) (w .producer) ≡ false) × (runOut (unlocked ms) (once w) ≡ true)
+
+-- with all digits locked: one setting; the first call ends, the second of its work steps at the idle rule
+pub record AllLocked (ms : List ℕ) (w : Walk) : Type 0 where
+  pub single : size ms ≡ 1
+  pub ends : answer w 1 ≡ given ended
+  pub first : runOut (unlocked ms) (w .producer) ≡ false
+  pub second : runOut (unlocked ms) (once w) ≡ true

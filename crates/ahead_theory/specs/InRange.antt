@@ -15,8 +15,10 @@ use Rattle.gray_theory.specs.Bools.{impossible}
 use Rattle.gray_theory.specs.Directions.{digitsInRange}
 use Rattle.gray_theory.specs.Radices.{allFrom, size}
 use Rattle.gray_theory.specs.Sizes.{radix-two}
+use Rattle.gray_theory.specs.Locks.{movingInRange}
+use Rattle.gray_theory.specs.Unlocked.{MovingSays, moving-says, unlocked-two, unlocked-most}
 use Rattle.gray_theory.specs.DigitRanges.{allBelow-each, each-allBelow}
-use Rattle.ahead_theory.specs.States.{Producer, Walk, survey, openCheck, places, isPlace, counterInRange, entriesInRange, producerInRange, stepLimit, inRange}
+use Rattle.ahead_theory.specs.States.{Producer, Walk, survey, movingRadices, openCheck, places, isPlace, counterInRange, entriesInRange, producerInRange, stepLimit, inRange}
 use Rattle.ahead_theory.specs.Work.{Work, carry, append, idle, countAt, radixAt, runOut, kind, done, work}
 use Rattle.ahead_theory.specs.Counters.{allFrom-places, length-places}
 use Rattle.gray_theory.specs.Capacities.{Openable}
@@ -26,6 +28,7 @@ use Rattle.ahead_theory.specs.Calls.{once, twice, dequeued}
 -- the lengths that the arrays of a state have
 pub record Arrays (w : Walk) : Type 0 where
   pub radices : length (w .radices) ≡ 48
+  pub moving : length (w .moving .digits) ≡ 48
   pub word : length (w .word) ≡ 48
   pub downs : length (w .downs) ≡ 48
   pub counter : length (w .producer .counter) ≡ 49
@@ -275,7 +278,8 @@ pub record Ranged (w : Walk) : Type 0 where
   pub most : w .n ≤ 48
   pub opens : isGiven (openCheck (survey w) (w .capacity)) ≡ true
   pub notches : digitsInRange (w .n) (w .radices) (w .word) (w .downs) ≡ true
-  pub ahead : producerInRange (survey w) (w .capacity) (w .producer) ≡ true
+  pub moving : movingInRange (survey w) (w .moving) ≡ true
+  pub ahead : producerInRange (movingRadices w) (w .capacity) (w .producer) ≡ true
   pub rank : w .moves < size (survey w)
   pub steps : w .producer .steps ≤ stepLimit (w .moves) (w .ended)
 
@@ -286,7 +290,7 @@ module _ (w : Walk) where
       let most = le-leb (w .n) 48 (s .most) in
       let rank = lt-ltb (w .moves) (size (survey w)) (s .rank) in
       let steps = le-leb (w .producer .steps) (stepLimit (w .moves) (w .ended)) (s .steps) in
-      rw (most, s .opens, s .notches, s .ahead, rank, steps)
+      rw (most, s .opens, s .notches, s .moving, s .ahead, rank, steps)
 
   pub range-says : inRange w ≡ true → Ranged w
   unfolding inRange
@@ -294,18 +298,21 @@ module _ (w : Walk) where
       let most = leb (w .n) 48 in
       let opens = isGiven (openCheck (survey w) (w .capacity)) in
       let notches = digitsInRange (w .n) (w .radices) (w .word) (w .downs) in
-      let ahead = producerInRange (survey w) (w .capacity) (w .producer) in
+      let moving = movingInRange (survey w) (w .moving) in
+      let ahead = producerInRange (movingRadices w) (w .capacity) (w .producer) in
       let rank = ltb (w .moves) (size (survey w)) in
       let steps = leb (w .producer .steps) (stepLimit (w .moves) (w .ended)) in
-      let (five, s) = and-eq-true-iff (most && opens && notches && ahead && rank) steps .0 e in
-      let (four, r) = and-eq-true-iff (most && opens && notches && ahead) rank .0 five in
-      let (three, a) = and-eq-true-iff (most && opens && notches) ahead .0 four in
+      let (six, s) = and-eq-true-iff (most && opens && notches && moving && ahead && rank) steps .0 e in
+      let (five, r) = and-eq-true-iff (most && opens && notches && moving && ahead) rank .0 six in
+      let (four, a) = and-eq-true-iff (most && opens && notches && moving) ahead .0 five in
+      let (three, v) = and-eq-true-iff (most && opens && notches) moving .0 four in
       let (two, t) = and-eq-true-iff (most && opens) notches .0 three in
       let (one, o) = and-eq-true-iff most opens .0 two in
       record {
         most = leb-true (w .n) 48 one;
         opens = o;
         notches = t;
+        moving = v;
         ahead = a;
         rank = ltb-true (w .moves) (size (survey w)) r;
         steps = leb-true (w .producer .steps) (stepLimit (w .moves) (w .ended)) s;
@@ -318,10 +325,16 @@ module _ (w : Walk) (s : Ranged w) where
   pub survey-long : length (w .radices) ≡ 48 → length (survey w) ≡ w .n
   survey-long room = length-take-le (w .n) (w .radices) (omega arith)
 
+  pub ranged-moving : MovingSays (survey w) (w .moving)
+  ranged-moving = moving-says (survey w) (w .moving) (s .moving)
+
+  pub moving-radices-most : length (w .radices) ≡ 48 → length (movingRadices w) ≤ 48
+  moving-radices-most room = let long = survey-long room in let few = unlocked-most (survey w) in let most = s .most in omega arith
+
 -- ---- the work steps of a call
 -- a producer that a call has come to by x work steps
 pub record Reached (w : Walk) (x : ℕ) (p : Producer) : Type 0 where
-  pub ahead : producerInRange (survey w) (w .capacity) p ≡ true
+  pub ahead : producerInRange (movingRadices w) (w .capacity) p ≡ true
   pub counter : length (p .counter) ≡ 49
   pub queue : length (p .queue) ≡ 32
   pub steps : p .steps ≤ stepLimit (w .moves) (w .ended) + x
@@ -333,15 +346,15 @@ module _ (w : Walk) (s : Ranged w) where
   pub reached-more : length (w .radices) ≡ 48
       → (x : ℕ) (p : Producer)
       → Reached w x p
-      → Reached w (x + 1) (work (survey w) (w .capacity) p)
+      → Reached w (x + 1) (work (movingRadices w) (w .capacity) p)
   reached-more room x p r =
       let sound = survey-openable w s in
-      let long = survey-long w s room in
-      let k = kind (survey w) (w .capacity) p in
+      let k = kind (movingRadices w) (w .capacity) p in
       let one = one-step k p in
       record {
         ahead =
-            work-keeps (survey w) (w .capacity) p (sound .survey .two) (r .counter) (omega arith) (r .queue) (sound .capacity) (r .ahead);
+            work-keeps (movingRadices w) (w .capacity) p (unlocked-two (survey w)) (r .counter) (moving-radices-most w s room) (r .queue) (sound .capacity)
+            (r .ahead);
         counter = counter-long k p ∙ r .counter;
         queue = queue-long k p ∙ r .queue;
         steps = omega arith;

@@ -1,13 +1,13 @@
 -- The range rule is kept by every accepted call but one that moves from j = N − 1, whose next call gets 7; so does every call on a
 -- closed walk.
-use Prim.Native.Nat.{ℕ, _+_, _-_, _*_, _≤_, _<_}
+use Prim.Native.Nat.{ℕ, suc, _+_, _-_, _*_, _≤_, _<_}
 use native.Mathlib.Decide.{ℕ-discrete}
 use native.Mathlib.Omega.{arith}
 use mathlib.Core.Path.{_≡_, refl, sym, ap, subst, _∙_}
 use mathlib.Core.Bool.{Bool, true, false, cond}
 use lib.Dec.{eqb}
 use borrow.Author.Tests.{eq-eqb, ne-eqb}
-use lib.ListN.{getD, length-set}
+use lib.ListN.{length, getD, length-set}
 use lib.Seq.{getD-take}
 use Rattle.gray_theory.specs.Answers.{given}
 use Rattle.gray_theory.specs.Bools.{impossible}
@@ -16,9 +16,10 @@ use Rattle.gray_theory.specs.Engines.{moved, refusedWith}
 use Rattle.gray_theory.specs.Radices.{size}
 use Rattle.gray_theory.specs.DigitRanges.{digits-move-in-range}
 use Rattle.gray_theory.specs.Sizes.{radix-two}
-use Rattle.ahead_theory.specs.States.{Producer, Walk, survey, producerInRange, stepLimit, inRange}
+use Rattle.gray_theory.specs.Unlocked.{movingDigit, unlocked-two}
+use Rattle.ahead_theory.specs.States.{Producer, Walk, survey, movingRadices, producerInRange, stepLimit, inRange}
 use Rattle.ahead_theory.specs.Calls.{fresh, closedWalk, twice, Course, faulty, over, dry, removing, course, dequeued, endOf, moveOf, stepBy, stepOf}
-use Rattle.ahead_theory.specs.InRange.{Arrays, producer-says, dequeued-long, dequeued-in-range, range-says, says-range, survey-openable, survey-long, reached-twice}
+use Rattle.ahead_theory.specs.InRange.{Arrays, Ranged, ranged-moving, producer-says, dequeued-long, dequeued-in-range, range-says, says-range, survey-openable, survey-long, reached-twice}
 
 -- ---- calls
 -- the tests of a call, in their order
@@ -40,16 +41,16 @@ module _ (w : Walk) where
     unfolding course
     goes-removing e z = rw (ranged, e, ne-eqb (twice w .queued) 0 z)
 
-  -- a removal, of the entry n + 1 and of any other
+  -- a removal, of the entry after those of the digits that move, and of any other
   module _ (removes : course w ≡ removing) where
-    pub removes-last : getD (twice w .queue) 0 0 ≡ w .n + 1 → stepOf w ≡ endOf w (dequeued (twice w))
+    pub removes-last : getD (twice w .queue) 0 0 ≡ w .moving .count + 1 → stepOf w ≡ endOf w (dequeued (twice w))
     unfolding stepOf
-    removes-last e = ap (stepBy w) removes ∙ rw (eq-eqb (getD (twice w .queue) 0 0) (w .n + 1) e)
+    removes-last e = ap (stepBy w) removes ∙ rw (eq-eqb (getD (twice w .queue) 0 0) (w .moving .count + 1) e)
 
-    pub removes-digit : (getD (twice w .queue) 0 0 ≡ w .n + 1 → ⊥)
-        → stepOf w ≡ moveOf w (getD (twice w .queue) 0 0) (dequeued (twice w))
+    pub removes-digit : (getD (twice w .queue) 0 0 ≡ w .moving .count + 1 → ⊥)
+        → stepOf w ≡ moveOf w (getD (w .moving .digits) (getD (twice w .queue) 0 0 - 1) 0) (dequeued (twice w))
     unfolding stepOf
-    removes-digit e = ap (stepBy w) removes ∙ rw (ne-eqb (getD (twice w .queue) 0 0) (w .n + 1) e)
+    removes-digit e = ap (stepBy w) removes ∙ rw (ne-eqb (getD (twice w .queue) 0 0) (w .moving .count + 1) e)
 
 -- how a call on a state in range goes: it hands the state back, or it removes an entry, which ends the walk or moves a digit
 pub data Going (w : Walk) : Type 0 where
@@ -60,8 +61,33 @@ pub data Going (w : Walk) : Type 0 where
       → 0 < twice w .queued
       → 1 ≤ k
       → k ≤ w .n
+      → 2 ≤ getD (w .radices) (k - 1) 0
       → stepOf w ≡ moveOf w k (dequeued (twice w))
       → Going w
+
+-- an entry turned back into the number of its digit
+pub record EntryDigit (w : Walk) (k : ℕ) : Type 0 where
+  pub from-one : 1 ≤ k
+  pub digit : k ≤ w .n
+  pub two : 2 ≤ getD (w .radices) (k - 1) 0
+
+pub entry-digit : (w : Walk)
+    → Ranged w
+    → Arrays w
+    → (k : ℕ)
+    → 1 ≤ k
+    → k ≤ length (movingRadices w)
+    → EntryDigit w (getD (w .moving .digits) (k - 1) 0)
+entry-digit w s a k low high =
+    let m = movingDigit (survey w) (survey-openable w s .survey .one) (k - 1) (omega arith) in
+    let is : getD (w .moving .digits) (k - 1) 0 ≡ suc (m .index) = ranged-moving w s .digits (k - 1) (omega arith) ∙ m .number in
+    let index : suc (m .index) - 1 ≡ m .index = omega arith in
+    let long = survey-long w s (a .radices) in
+    let inside = m .within in
+    let two = radix-two (movingRadices w) (k - 1) (unlocked-two (survey w)) (omega arith) in
+    let same : getD (w .radices) (m .index) 0 ≡ getD (movingRadices w) (k - 1) 0 =
+    sym (getD-take (w .n) (w .radices) (m .index) 0 (omega arith)) ∙ m .radix in
+    rw is (record { from-one = omega arith; digit = omega arith; two = rw index (omega arith) })
 
 pub going : (w : Walk) → Arrays w → inRange w ≡ true → Going w
 unfolding stepOf
@@ -77,19 +103,26 @@ going w a ranged = go (w .ended) refl
               let long = survey-long w s (a .radices) in
               let some : 0 < twice w .queued = omega arith in
               let removes = goes-removing w ranged e z in
-              let place = producer-says (survey w) (w .capacity) (twice w) (reached-twice w s a .ahead) .entries 0 some in
-              elim (ℕ-discrete (getD (twice w .queue) 0 0) (w .n + 1)) [
+              let place = producer-says (movingRadices w) (w .capacity) (twice w) (reached-twice w s a .ahead) .entries 0 some in
+              let many = ranged-moving w s .count in
+              elim (ℕ-discrete (getD (twice w .queue) 0 0) (w .moving .count + 1)) [
                 | yes l ↦ ends e some (removes-last w removes l)
-                | no d ↦ moves (getD (twice w .queue) 0 0) e some (place .from-one) (omega arith) (removes-digit w removes d)
+                | no d ↦
+                    let m = entry-digit w s a (getD (twice w .queue) 0 0) (place .from-one) (omega arith) in
+                    moves (getD (w .moving .digits) (getD (twice w .queue) 0 0 - 1) 0) e some
+                    (m .from-one)
+                    (m .digit)
+                    (m .two)
+                    (removes-digit w removes d)
               ]
         ]
 
 module _ (w : Walk) (a : Arrays w) (ranged : inRange w ≡ true) where
   -- what is left after a removal
-  removed-in-range : 0 < twice w .queued → producerInRange (survey w) (w .capacity) (dequeued (twice w)) ≡ true
+  removed-in-range : 0 < twice w .queued → producerInRange (movingRadices w) (w .capacity) (dequeued (twice w)) ≡ true
   removed-in-range some =
       let r = reached-twice w (range-says w ranged) a in
-      dequeued-in-range (survey w) (w .capacity) (twice w) (r .ahead) (r .queue) some
+      dequeued-in-range (movingRadices w) (w .capacity) (twice w) (r .ahead) (r .queue) some
 
   steps-after : w .ended ≡ false → twice w .steps ≤ 2 * w .moves + 2
   steps-after going =
@@ -109,24 +142,23 @@ module _ (w : Walk) (a : Arrays w) (ranged : inRange w ≡ true) where
         most = s .most;
         opens = s .opens;
         notches = s .notches;
+        moving = s .moving;
         ahead = removed-in-range some;
         rank = s .rank;
         steps = omega arith;
       })
-  range-after (moves k going some low high e) rank =
+  range-after (moves k going some low high two e) rank =
       let s = range-says w ranged in
       let limit = steps-after going in
-      let long = survey-long w s (a .radices) in
-      let two = radix-two (survey w) (k - 1) (survey-openable w s .survey .two) (omega arith) in
-      let same = getD-take (w .n) (w .radices) (k - 1) 0 (omega arith) in
       ap (λ h. inRange (h .state)) e
       ∙ says-range (moveOf w k (dequeued (twice w)) .state)
       (record {
         most = s .most;
         opens = s .opens;
         notches =
-            digits-move-in-range (w .n) (w .radices) (w .word) (w .downs) (k - 1) (omega arith) (omega arith) (omega arith) (omega arith)
+            digits-move-in-range (w .n) (w .radices) (w .word) (w .downs) (k - 1) (omega arith) (omega arith) (omega arith) two
             (s .notches);
+        moving = s .moving;
         ahead = removed-in-range some;
         rank = rw e at rank;
         steps = omega arith;
@@ -143,16 +175,18 @@ module _ (w : Walk) (a : Arrays w) (ranged : inRange w ≡ true) where
       subst (λ h. Arrays (h .state)) (sym e)
       (record {
         radices = a .radices;
+        moving = a .moving;
         word = a .word;
         downs = a .downs;
         counter = r .counter;
         queue = dequeued-long (twice w) (omega arith) ∙ r .queue;
       })
-  arrays-after (moves k going some low high e) =
+  arrays-after (moves k going some low high two e) =
       let r = reached-twice w (range-says w ranged) a in
       subst (λ h. Arrays (h .state)) (sym e)
       (record {
         radices = a .radices;
+        moving = a .moving;
         word = simp length-set (a .word);
         downs = simp length-set (a .downs);
         counter = r .counter;
@@ -179,10 +213,10 @@ unfolding endOf moveOf
 one-move w c faulty e = impossible (cc)
 one-move w c over e = impossible (cc)
 one-move w c dry e = impossible (cc)
-one-move w c removing e = by (eqb (getD (twice w .queue) 0 0) (w .n + 1)) e
+one-move w c removing e = by (eqb (getD (twice w .queue) 0 0) (w .moving .count + 1)) e
   where
     k : ℕ
-    k = getD (twice w .queue) 0 0
+    k = getD (w .moving .digits) (getD (twice w .queue) 0 0 - 1) 0
 
     p : Producer
     p = dequeued (twice w)

@@ -18,22 +18,42 @@ use Rattle.gray_theory.specs.Rulers.{ruler-pos, ruler-at-end}
 use Rattle.gray_theory.specs.Sizes.{allFrom-weaker, size-pos}
 use Rattle.ahead_theory.specs.Work.{Work, carry, append, idle}
 use Rattle.gray_theory.specs.Capacities.{Openable}
+use Rattle.gray_theory.specs.Locks.{unlocked}
+use Rattle.gray_theory.specs.Unlocked.{unlocked-two, unlocked-most}
 use Rattle.ahead_theory.specs.Entries.{cost-mono, cost-least, cost-from-N}
 
--- entries t + 1 .. t + k are queued, in at most c places, and p of the carries of the next one are made
+-- what work steps need to know of the digits that they run over, and of the capacity
+pub record Buffered (ms : List ℕ) (c : ℕ) : Type 0 where
+  pub two : allFrom 2 ms ≡ true
+  pub most : length ms ≤ 48
+  pub place : 1 ≤ c
+  pub capacity : c ≤ 32
+
+-- the digits of an open survey that move
+pub buffered : {ms : List ℕ} {c : ℕ} → Openable ms c → Buffered (unlocked ms) c
+buffered {ms} v =
+    let few = unlocked-most ms in
+    let most = v .survey .most in
+    record { two = unlocked-two ms; most = omega arith; place = v .place; capacity = v .capacity }
+
+-- entries t + 1 .. t + k are queued, in at most c places, and p of the carries of the next one are made. The counter holds
+-- entries up to 2 N − 1
 pub record Position (ms : List ℕ) (c t k p : ℕ) : Type 0 where
   pub fits : k ≤ c
   pub carries : p < ruler ms (suc (t + k))
+  pub held : suc (t + k) ≤ 2 * size ms
 
 -- the useful steps made by then
 abbrev pub stepsAt : List ℕ → ℕ → ℕ → ℕ → ℕ
 stepsAt ms t k p = cost ms (t + k) + p
 
--- what a work step does with the numbers, and when
+-- what a work step does with the numbers, and when. After entry 2 N − 1 the counter has run out: all places but the last carry,
+-- and there the step is idle
 pub data Worked (ms : List ℕ) (c t k p : ℕ) : Work → ℕ → ℕ → Type 0 where
   carried : suc p < ruler ms (suc (t + k)) → Worked ms c t k p carry k (suc p)
-  appended : suc p ≡ ruler ms (suc (t + k)) → k < c → Worked ms c t k p append (suc k) 0
+  appended : suc p ≡ ruler ms (suc (t + k)) → k < c → suc (t + k) < 2 * size ms → Worked ms c t k p append (suc k) 0
   idled : suc p ≡ ruler ms (suc (t + k)) → k ≡ c → Worked ms c t k p idle k p
+  spent : suc (t + k) ≡ 2 * size ms → Worked ms c t k p idle k p
 
 pub one : (ms : List ℕ) → allFrom 2 ms ≡ true → allFrom 1 ms ≡ true
 one ms e = allFrom-weaker 2 1 ms (omega arith) e
@@ -43,9 +63,11 @@ pub work-position : {ms : List ℕ} {c t k p : ℕ} {e : Work} {k′ p′ : ℕ}
     → Position ms c t k p
     → Worked ms c t k p e k′ p′
     → Position ms c t k′ p′
-work-position {ms = ms} {t = t} {k = k} at (carried h) = record { fits = at .fits; carries = h }
-work-position {ms = ms} {t = t} {k = k} at (appended h room) = record { fits = room; carries = ruler-pos ms (suc (t + suc k)) }
+work-position {ms = ms} {t = t} {k = k} at (carried h) = record { fits = at .fits; carries = h; held = at .held }
+work-position {ms = ms} {t = t} {k = k} at (appended h room more) =
+    record { fits = room; carries = ruler-pos ms (suc (t + suc k)); held = omega arith }
 work-position at (idled h full) = at
+work-position at (spent h) = at
 
 -- the cost of the next entry
 next-cost : (ms : List ℕ) → allFrom 2 ms ≡ true → (t k : ℕ) → cost ms (t + suc k) ≡ cost ms (t + k) + ruler ms (suc (t + k))
@@ -71,8 +93,9 @@ pub work-steps : {ms : List ℕ} {c t k p : ℕ} {e : Work} {k′ p′ : ℕ}
     → stepsAt ms t k′ p′ ≡ stepsAt ms t k p + gained e
 unfolding gained
 work-steps two (carried h) = omega arith
-work-steps {ms = ms} {t = t} {k = k} two (appended h room) = let n = next-cost ms two t k in omega arith
+work-steps {ms = ms} {t = t} {k = k} two (appended h room more) = let n = next-cost ms two t k in omega arith
 work-steps two (idled h full) = omega arith
+work-steps two (spent h) = omega arith
 
 -- the entries finished, by the steps: those up to t + k, and no more
 pub steps-short : {ms : List ℕ} {c t k p : ℕ}
@@ -115,18 +138,18 @@ ahead-fresh ms two d h = let b = cost-below-double ms two (0 + suc d) (omega ari
 -- an idle step: c entries are queued, so that an entry further on has c more calls before its removal, and a burst of entries
 -- costs no more than those allow
 ahead-idle : (ms : List ℕ) (c t p x : ℕ)
-    → Openable ms c
+    → Buffered ms c
     → length ms ≤ 2 * c
     → x ≤ 1
     → suc p ≡ ruler ms (suc (t + c))
     → (d : ℕ)
     → cost ms (t + suc d) + suc x ≤ stepsAt ms t c p + 2 * suc d
 ahead-idle ms c t p x v enough small last d =
-    let n = entry-costs-ruler ms (one ms (v .survey .two)) (t + c) in
+    let n = entry-costs-ruler ms (one ms (v .two)) (t + c) in
     elim (decLt d c) [
       | yes q ↦
           let e : t + suc d + (c - suc d) ≡ t + c = omega arith in
-          let m : cost ms (t + suc d) ≤ cost ms (t + c) = rw e at (cost-mono ms (one ms (v .survey .two)) (t + suc d) (c - suc d)) in
+          let m : cost ms (t + suc d) ≤ cost ms (t + c) = rw e at (cost-mono ms (one ms (v .two)) (t + suc d) (c - suc d)) in
           omega arith
       | no q ↦
           let f = d - c in
@@ -138,24 +161,29 @@ ahead-idle ms c t p x v enough small last d =
           let g : suc (t + c) + f ≡ suc (t + c) = omega arith in
           let here = ap (cost ms) g in
           omega arith)
-          (λ pos. let b = cost-burst ms (v .survey .two) (suc (t + c)) f pos in omega arith)
+          (λ pos. let b = cost-burst ms (v .two) (suc (t + c)) f pos in omega arith)
           (eq-zero-or-pos f)
     ]
 
 pub ahead-work : {ms : List ℕ} {c t k p : ℕ} {e : Work} {k′ p′ : ℕ} (x : ℕ)
-    → Openable ms c
+    → Buffered ms c
     → length ms ≤ 2 * c
     → x ≤ 1
     → Worked ms c t k p e k′ p′
     → Ahead ms t x (stepsAt ms t k p)
     → Ahead ms t (suc x) (stepsAt ms t k′ p′)
 ahead-work x v enough small (carried h) a d within = let b = a d within in omega arith
-ahead-work {ms} {t = t} {k = k} x v enough small (appended h room) a d within =
-    let b = a d within in let n = next-cost ms (v .survey .two) t k in omega arith
+ahead-work {ms} {t = t} {k = k} x v enough small (appended h room more) a d within =
+    let b = a d within in let n = next-cost ms (v .two) t k in omega arith
 ahead-work {ms} {c} {t} {k} {p} x v enough small (idled h full) a d within =
     let g : suc p ≡ ruler ms (suc (t + c)) = h ∙ ap (λ (j : ℕ). ruler ms (suc (t + j))) full in
     let same : stepsAt ms t c p ≡ stepsAt ms t k p = ap (λ (j : ℕ). stepsAt ms t j p) (sym full) in
     let b = ahead-idle ms c t p x v enough small g d in
+    omega arith
+ahead-work {ms} {c} {t} {k} {p} x v enough small (spent h) a d within =
+    let pos = size-pos ms (one ms (v .two)) in
+    let e : t + suc d + (k - suc d) ≡ t + k = omega arith in
+    let m : cost ms (t + suc d) ≤ cost ms (t + k) = rw e at (cost-mono ms (one ms (v .two)) (t + suc d) (k - suc d)) in
     omega arith
 
 -- a removal
@@ -230,15 +258,38 @@ behind-queued {ms} {c} {t} {k} {p} last two at whole here some b =
 
 -- ---- the counter does not run out
 -- with at most 2 N − 1 useful steps made, fewer than 2 N − 1 entries are finished
-pub counter-lasts : {ms : List ℕ} {c t k p : ℕ} → Openable ms c
+pub counter-lasts : {ms : List ℕ} {c t k p : ℕ} → Buffered ms c
+    → 0 < length ms
     → Position ms c t k p
     → stepsAt ms t k p < 2 * size ms
     → suc (t + k) < 2 * size ms
-counter-lasts {ms} {c} {t} {k} {p} v at h =
+counter-lasts {ms} {c} {t} {k} {p} v some at h =
     elim (decLt (suc (t + k)) (2 * size ms)) [
       | yes q ↦ q
       | no q ↦
-          let pos = size-pos ms (one ms (v .survey .two)) in
-          let more = cost-from-N ms (one ms (v .survey .two)) (t + k) (v .survey .some) (omega arith) in
+          let pos = size-pos ms (one ms (v .two)) in
+          let more = cost-from-N ms (one ms (v .two)) (t + k) some (omega arith) in
           absurd (omega arith)
     ]
+
+-- ---- a buffer filled ahead, from whatever rank (document 02, request 6)
+-- a full queue, or one that holds the last entry, is ahead
+pub ahead-full : (ms : List ℕ) (c t p : ℕ) → Buffered ms c → length ms ≤ 2 * c → Ahead ms t 0 (stepsAt ms t c p)
+ahead-full ms c t p v enough d within =
+    elim (decLt d c) [
+      | yes q ↦
+          let e : t + suc d + (c - suc d) ≡ t + c = omega arith in
+          let m : cost ms (t + suc d) ≤ cost ms (t + c) = rw e at (cost-mono ms (one ms (v .two)) (t + suc d) (c - suc d)) in
+          omega arith
+      | no q ↦
+          let e : t + suc d ≡ t + c + suc (d - c) = omega arith in
+          let same = ap (cost ms) e in
+          let b = cost-burst ms (v .two) (t + c) (suc (d - c)) (omega arith) in
+          omega arith
+    ]
+
+pub ahead-whole : (ms : List ℕ) (c t k p : ℕ) → Buffered ms c → size ms ≤ t + k → Ahead ms t 0 (stepsAt ms t k p)
+ahead-whole ms c t k p v whole d within =
+    let e : t + suc d + (k - suc d) ≡ t + k = omega arith in
+    let m : cost ms (t + suc d) ≤ cost ms (t + k) = rw e at (cost-mono ms (one ms (v .two)) (t + suc d) (k - suc d)) in
+    omega arith

@@ -13,6 +13,8 @@ use Rattle.gray_theory.specs.Changes.{ruler}
 use Rattle.gray_theory.specs.Rulers.{ruler-pos}
 use Rattle.gray_theory.specs.Answers.{isGiven}
 use Rattle.gray_theory.specs.Arrays.{filled}
+use Rattle.gray_theory.specs.Locks.{unlocked, movingDigits}
+use Rattle.gray_theory.specs.Unlocked.{says-moving, moving-stored}
 use Rattle.gray_theory.specs.WalkArrays.{arrays-in-range}
 use Rattle.gray_theory.specs.Filled.{take-filled, getD-filled}
 use Rattle.ahead_theory.specs.States.{Producer, survey, places, producerInRange, stepLimit, inRange}
@@ -20,7 +22,7 @@ use Rattle.ahead_theory.specs.InRange.{IsPlace, says-producer, says-rang
 use Rattle.ahead_theory.specs.Counters.{mixedDigits, cleared, length-mixedDigits, mixed-below, length-cleared, cleared-below, ruler-most, allFrom-places, length-places}
 use Rattle.gray_theory.specs.Capacities.{Openable}
 use Rattle.ahead_theory.specs.Openings.{opens}
-use Rattle.ahead_theory.specs.Positions.{Position, one}
+use Rattle.ahead_theory.specs.Positions.{Buffered, Position, one}
 use Rattle.ahead_theory.specs.Canonical.{entries, length-entries, producerAt, walkAt}
 
 getD-entries : (ms : List ℕ) (t k i : ℕ) → i < k → getD (entries ms t k) i 0 ≡ ruler ms (suc (t + i))
@@ -36,7 +38,7 @@ getD-entries ms t (suc k) i h =
     ]
 
 -- ---- the producer
-module _ (ms : List ℕ) (c : ℕ) (v : Openable ms c) (t k p : ℕ) (at : Position ms c t k p) where
+module _ (ms : List ℕ) (c : ℕ) (v : Buffered ms c) (s t k p : ℕ) (at : Position ms c t k p) where
   count-below : (i : ℕ)
       → i < length ms + 1
       → getD (filled 49 0 (cleared p (mixedDigits (places ms) (t + k)))) i 0 < getD (places ms) i 0
@@ -47,7 +49,7 @@ module _ (ms : List ℕ) (c : ℕ) (v : Openable ms c) (t k p : ℕ) (at : Posit
       let f = at .carries in
       let long = length-cleared p (mixedDigits (places ms) (t + k)) (omega arith) in
       let low = cleared-below p (mixedDigits (places ms) (t + k)) i in
-      let below = mixed-below (places ms) (allFrom-places 1 ms (omega arith) (one ms (v .survey .two))) (t + k) i (omega arith) in
+      let below = mixed-below (places ms) (allFrom-places 1 ms (omega arith) (one ms (v .two))) (t + k) i (omega arith) in
       rw (getD-filled 49 0 (cleared p (mixedDigits (places ms) (t + k))) i 0 (omega arith)) (lt-of-le-of-lt low below)
 
   entry-is-place : (i : ℕ) → i < k → IsPlace ms (getD (filled 32 0 (entries ms t k)) i 0)
@@ -59,11 +61,11 @@ module _ (ms : List ℕ) (c : ℕ) (v : Openable ms c) (t k p : ℕ) (at : Posit
       let most = ruler-most ms (suc (t + i)) in
       record { from-one = omega arith; last = omega arith }
 
-  pub producer-ranged : producerInRange ms c (producerAt ms t k p) ≡ true
+  pub producer-ranged : producerInRange ms c (producerAt ms s t k p) ≡ true
   producer-ranged =
       let r = ruler-most ms (suc (t + k)) in
       let f = at .carries in
-      says-producer ms c (producerAt ms t k p)
+      says-producer ms c (producerAt ms s t k p)
       (record {
         counts = count-below;
         at = record { from-one = omega arith; last = omega arith };
@@ -76,7 +78,7 @@ module _ (ms : List ℕ) (c : ℕ) (v : Openable ms c) (t k p : ℕ) (at : Posit
 pub state-ranged : (ms : List ℕ) (c t : ℕ) (over : Bool) (q : Producer)
     → Openable ms c
     → t < size ms
-    → producerInRange ms c q ≡ true
+    → producerInRange (unlocked ms) c q ≡ true
     → q .steps ≤ stepLimit t over
     → inRange (walkAt ms c t over q) ≡ true
 state-ranged ms c t over q v below ranged limit =
@@ -85,7 +87,8 @@ state-ranged ms c t over q v below ranged limit =
     (record {
       most = v .survey .most;
       opens = rw survey-is (ap isGiven (opens v));
-      notches = arrays-in-range ms (v .survey .two) t;
+      notches = arrays-in-range ms (v .survey .one) t;
+      moving = rw survey-is (says-moving ms (movingDigits ms) (moving-stored ms));
       ahead = rw survey-is ranged;
       rank = rw survey-is below;
       steps = limit;

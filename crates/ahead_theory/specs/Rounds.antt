@@ -9,61 +9,63 @@ use lib.ListN.{length, getD, drop}
 use Rattle.gray_theory.specs.Answers.{given}
 use Rattle.gray_theory.specs.Radices.{size}
 use Rattle.gray_theory.specs.Changes.{Change, change, ruler}
-use Rattle.gray_theory.specs.Costs.{cost}
-use Rattle.gray_theory.specs.Rulers.{ruler-at-end}
+use Rattle.gray_theory.specs.Locks.{unlocked, movingDigits}
+use Rattle.gray_theory.specs.Unlocked.{size-unlocked, unlocked-two, length-moving, entry-number, moving-stored}
+use Rattle.gray_theory.specs.Rulers.{ruler-pos, ruler-at-end}
 use Rattle.gray_theory.specs.Turns.{Advances, walk-advances}
 use Rattle.gray_theory.specs.Engines.{moved, ended}
 use Rattle.gray_theory.specs.Arrays.{filled}
 use Rattle.gray_theory.specs.WalkArrays.{word-array-moved, down-array-moved, change-named}
 use Rattle.gray_theory.specs.Filled.{take-filled, filled-drop}
-use Rattle.ahead_theory.specs.States.{Producer, Walk, survey, places, inRange}
-use Rattle.ahead_theory.specs.Work.{Work, runOut, kind, done, work}
+use Rattle.ahead_theory.specs.States.{Producer, Walk, movingRadices, places, inRange}
+use Rattle.ahead_theory.specs.Work.{Work, kind, done, work}
 use Rattle.ahead_theory.specs.Calls.{once, twice, dry, removing, course, dequeued, endOf, moveOf, stepOf}
 use Rattle.ahead_theory.specs.Runs.{eventsBy}
 use Rattle.ahead_theory.specs.Kept.{goes-dry, goes-removing, removes-last, removes-digit}
 use Rattle.ahead_theory.specs.Counters.{mixedDigits, cleared}
 use Rattle.gray_theory.specs.Capacities.{Openable}
-use Rattle.ahead_theory.specs.Positions.{Position, Worked, stepsAt, one, work-position, work-steps, gain-small, counter-lasts}
-use Rattle.ahead_theory.specs.Canonical.{entries, length-entries, entries-first, same-producer, same-walk, producerAt, walkAt, Does, does, not-run-out}
+use Rattle.ahead_theory.specs.Positions.{buffered, Position, Worked, one, gained, work-position}
+use Rattle.ahead_theory.specs.Canonical.{entries, length-entries, entries-first, same-producer, same-walk, producerAt, walkAt, Does, does}
 use Rattle.ahead_theory.specs.Ranged.{producer-ranged, state-ranged}
 
 -- the state of a running walk
-abbrev pub running : List ℕ → ℕ → ℕ → ℕ → ℕ → Walk
-running ms c t k p = walkAt ms c t false (producerAt ms t k p)
+abbrev pub running : List ℕ → ℕ → ℕ → ℕ → ℕ → ℕ → Walk
+running ms c s t k p = walkAt ms c t false (producerAt (unlocked ms) s t k p)
 
 -- ---- the two work steps of a call
-pub record Round (ms : List ℕ) (c t k p : ℕ) : Type 0 where
+pub record Round (ms : List ℕ) (c s t k p : ℕ) : Type 0 where
   pub e₁ : Work
   pub k₁ : ℕ
   pub p₁ : ℕ
   pub e₂ : Work
   pub k₂ : ℕ
   pub p₂ : ℕ
-  pub first : Worked ms c t k p e₁ k₁ p₁
-  pub second : Worked ms c t k₁ p₁ e₂ k₂ p₂
-  pub events-are : eventsBy (running ms c t k p) removing ≡ e₁ ∷ e₂ ∷ []
-  pub once-is : once (running ms c t k p) ≡ producerAt ms t k₁ p₁
-  pub twice-is : twice (running ms c t k p) ≡ producerAt ms t k₂ p₂
-  pub lasts-first : runOut ms (producerAt ms t k p) ≡ false
-  pub lasts-second : runOut ms (producerAt ms t k₁ p₁) ≡ false
+  pub first : Worked (unlocked ms) c t k p e₁ k₁ p₁
+  pub second : Worked (unlocked ms) c t k₁ p₁ e₂ k₂ p₂
+  pub events-are : eventsBy (running ms c s t k p) removing ≡ e₁ ∷ e₂ ∷ []
+  pub once-is : once (running ms c s t k p) ≡ producerAt (unlocked ms) (s + gained e₁) t k₁ p₁
+  pub twice-is : twice (running ms c s t k p) ≡ producerAt (unlocked ms) (s + gained e₁ + gained e₂) t k₂ p₂
 
-work-is : {ms : List ℕ} {c t k p : ℕ} {e : Work} {k′ p′ : ℕ}
-    → Does ms c t k p e k′ p′
-    → work ms c (producerAt ms t k p) ≡ producerAt ms t k′ p′
-work-is {ms} {c} {t} {k} {p} d = ap (λ (e : Work). done e (producerAt ms t k p)) (d .is-kind) ∙ d .leaves
+-- the useful steps counted by then
+abbrev pub stepsAfter : {ms : List ℕ} {c s t k p : ℕ} → Round ms c s t k p → ℕ
+stepsAfter {s = s} r = s + gained (r .e₁) + gained (r .e₂)
 
-joined : {ms : List ℕ} {c t k p : ℕ} {e₁ e₂ : Work} {k₁ p₁ k₂ p₂ : ℕ}
-    → Does ms c t k p e₁ k₁ p₁
-    → Does ms c t k₁ p₁ e₂ k₂ p₂
-    → runOut ms (producerAt ms t k p) ≡ false
-    → runOut ms (producerAt ms t k₁ p₁) ≡ false
-    → Round ms c t k p
-joined {ms} {c} {t} {k} {p} {e₁} {e₂} {k₁} {p₁} {k₂} {p₂} d₁ d₂ r₁ r₂ =
-    let w : Walk = running ms c t k p in
-    let s : survey w ≡ ms = take-filled 48 0 ms in
-    let o : once w ≡ producerAt ms t k₁ p₁ = ap (λ (l : List ℕ). work l c (producerAt ms t k p)) s ∙ work-is d₁ in
-    let kind₁ : kind (survey w) c (producerAt ms t k p) ≡ e₁ = ap (λ (l : List ℕ). kind l c (producerAt ms t k p)) s ∙ d₁ .is-kind in
-    let kind₂ : kind (survey w) c (once w) ≡ e₂ = ap₂ (λ (l : List ℕ) (q : Producer). kind l c q) s o ∙ d₂ .is-kind in
+work-is : {ws : List ℕ} {c s t k p : ℕ} {e : Work} {k′ p′ : ℕ}
+    → Does ws c s t k p e k′ p′
+    → work ws c (producerAt ws s t k p) ≡ producerAt ws (s + gained e) t k′ p′
+work-is {ws} {c} {s} {t} {k} {p} d = ap (λ (e : Work). done e (producerAt ws s t k p)) (d .is-kind) ∙ d .leaves
+
+joined : {ms : List ℕ} {c s t k p : ℕ} {e₁ e₂ : Work} {k₁ p₁ k₂ p₂ : ℕ}
+    → Does (unlocked ms) c s t k p e₁ k₁ p₁
+    → Does (unlocked ms) c (s + gained e₁) t k₁ p₁ e₂ k₂ p₂
+    → Round ms c s t k p
+joined {ms} {c} {s} {t} {k} {p} {e₁} {e₂} {k₁} {p₁} {k₂} {p₂} d₁ d₂ =
+    let w : Walk = running ms c s t k p in
+    let ws : List ℕ = unlocked ms in
+    let l : movingRadices w ≡ ws = ap unlocked (take-filled 48 0 ms) in
+    let o : once w ≡ producerAt ws (s + gained e₁) t k₁ p₁ = ap (λ (h : List ℕ). work h c (producerAt ws s t k p)) l ∙ work-is d₁ in
+    let kind₁ : kind (movingRadices w) c (producerAt ws s t k p) ≡ e₁ = ap (λ (h : List ℕ). kind h c (producerAt ws s t k p)) l ∙ d₁ .is-kind in
+    let kind₂ : kind (movingRadices w) c (once w) ≡ e₂ = ap₂ (λ (h : List ℕ) (q : Producer). kind h c q) l o ∙ d₂ .is-kind in
     record {
       e₁ = e₁;
       k₁ = k₁;
@@ -75,36 +77,23 @@ joined {ms} {c} {t} {k} {p} {e₁} {e₂} {k₁} {p₁} {k₂} {p₂} d₁ d₂ 
       second = d₂ .numbers;
       events-are = ap₂ (λ (a b : Work). a ∷ b ∷ []) kind₁ kind₂;
       once-is = o;
-      twice-is = ap₂ (λ (l : List ℕ) (q : Producer). work l c q) s o ∙ work-is d₂;
-      lasts-first = r₁;
-      lasts-second = r₂;
+      twice-is = ap₂ (λ (h : List ℕ) (q : Producer). work h c q) l o ∙ work-is d₂;
     }
 
-pub round : (ms : List ℕ) (c : ℕ)
-    → Openable ms c
-    → (t k p : ℕ)
-    → Position ms c t k p
-    → t < size ms
-    → stepsAt ms t k p ≤ 2 * t
-    → Round ms c t k p
-round ms c v t k p at below low =
-    let lasts = counter-lasts v at (omega arith) in
-    let (e₁, k₁, p₁, d₁) = does ms c v t k p at lasts in
-    let at₁ : Position ms c t k₁ p₁ = work-position at (d₁ .numbers) in
-    let g = gain-small e₁ in
-    let n = work-steps (v .survey .two) (d₁ .numbers) in
-    let lasts₁ = counter-lasts v at₁ (omega arith) in
-    let (e₂, k₂, p₂, d₂) = does ms c v t k₁ p₁ at₁ lasts₁ in
-    joined d₁ d₂ (not-run-out ms c v t k p at lasts) (not-run-out ms c v t k₁ p₁ at₁ lasts₁)
+pub round : (ms : List ℕ) (c : ℕ) → Openable ms c → (s t k p : ℕ) → Position (unlocked ms) c t k p → Round ms c s t k p
+round ms c v s t k p at =
+    let (e₁, k₁, p₁, d₁) = does (unlocked ms) c (buffered v) s t k p at in
+    let (e₂, k₂, p₂, d₂) = does (unlocked ms) c (buffered v) (s + gained e₁) t k₁ p₁ (work-position at (d₁ .numbers)) in
+    joined d₁ d₂
 
 -- ---- the removal
 -- the oldest entry, and the producer without it
 oldest : (ms : List ℕ) (t k : ℕ) → getD (filled 32 0 (entries ms t (suc k))) 0 0 ≡ ruler ms (suc t)
 oldest ms t k = ap (λ (l : List ℕ). getD (filled 32 0 l) 0 0) (entries-first ms t k)
 
-dequeued-is : (ms : List ℕ) (t k p : ℕ) → k < 32 → dequeued (producerAt ms t (suc k) p) ≡ producerAt ms (suc t) k p
+dequeued-is : (ms : List ℕ) (s t k p : ℕ) → k < 32 → dequeued (producerAt ms s t (suc k) p) ≡ producerAt ms s (suc t) k p
 unfolding dequeued
-dequeued-is ms t k p room =
+dequeued-is ms s t k p room =
     let e : t + suc k ≡ suc t + k = omega arith in
     let l = length-entries ms (suc t) k in
     same-producer
@@ -113,7 +102,7 @@ dequeued-is ms t k p room =
     (ap (λ (q : List ℕ). drop 1 (filled 32 0 q) ++ (0 ∷ [])) (entries-first ms t k)
     ∙ filled-drop 32 0 (ruler ms (suc t)) (entries ms (suc t) k) (omega arith))
     (omega arith)
-    (ap (λ (j : ℕ). cost ms j + p) e)
+    refl
 
 -- the entry of a digit moves it as the list says
 move-is : (ms : List ℕ) (c t i : ℕ) (q left : Producer)
@@ -131,54 +120,65 @@ move-is ms c t i q left a below =
 
 -- ---- one call
 -- a call on a running state goes as its queue has it after the two work steps
-module _ (ms : List ℕ) (c : ℕ) (v : Openable ms c) (t k p : ℕ) (at : Position ms c t k p) (below : t < size ms) (low : stepsAt ms t k p ≤ 2 * t) where
-  pub running-ranged : inRange (running ms c t k p) ≡ true
-  running-ranged = state-ranged ms c t false (producerAt ms t k p) v below (producer-ranged ms c v t k p at) (omega arith)
+module _ (ms : List ℕ) (c : ℕ) (v : Openable ms c) (s t k p : ℕ) (at : Position (unlocked ms) c t k p) (below : t < size ms) (low : s ≤ 2 * t) where
+  pub running-ranged : inRange (running ms c s t k p) ≡ true
+  running-ranged = state-ranged ms c t false (producerAt (unlocked ms) s t k p) v below (producer-ranged (unlocked ms) c (buffered v) s t k p at) (omega arith)
 
-  queued-is : (r : Round ms c t k p) → twice (running ms c t k p) .queued ≡ r .k₂
+  queued-is : (r : Round ms c s t k p) → twice (running ms c s t k p) .queued ≡ r .k₂
   queued-is r = ap (λ (q : Producer). q .queued) (r .twice-is)
 
   -- the queue is empty: the call is dry
-  pub dry-call : (r : Round ms c t k p) → r .k₂ ≡ 0 → course (running ms c t k p) ≡ dry
-  dry-call r none = goes-dry (running ms c t k p) running-ranged refl (queued-is r ∙ none)
+  pub dry-call : (r : Round ms c s t k p) → r .k₂ ≡ 0 → course (running ms c s t k p) ≡ dry
+  dry-call r none = goes-dry (running ms c s t k p) running-ranged refl (queued-is r ∙ none)
 
   -- it holds an entry: the oldest is removed
-  pub removing-call : (r : Round ms c t k p) (k′ : ℕ) → r .k₂ ≡ suc k′ → course (running ms c t k p) ≡ removing
+  pub removing-call : (r : Round ms c s t k p) (k′ : ℕ) → r .k₂ ≡ suc k′ → course (running ms c s t k p) ≡ removing
   removing-call r k′ some =
-      let e = queued-is r in goes-removing (running ms c t k p) running-ranged refl (λ none. omega arith)
+      let e = queued-is r in goes-removing (running ms c s t k p) running-ranged refl (λ none. omega arith)
 
-  module _ (r : Round ms c t k p) (k′ : ℕ) (some : r .k₂ ≡ suc k′) where
-    twice-is-one-more : twice (running ms c t k p) ≡ producerAt ms t (suc k′) (r .p₂)
-    twice-is-one-more = r .twice-is ∙ ap (λ (j : ℕ). producerAt ms t j (r .p₂)) some
+  module _ (r : Round ms c s t k p) (k′ : ℕ) (some : r .k₂ ≡ suc k′) where
+    twice-is-one-more : twice (running ms c s t k p) ≡ producerAt (unlocked ms) (stepsAfter r) t (suc k′) (r .p₂)
+    twice-is-one-more = r .twice-is ∙ ap (λ (j : ℕ). producerAt (unlocked ms) (stepsAfter r) t j (r .p₂)) some
 
-    oldest-is : getD (twice (running ms c t k p) .queue) 0 0 ≡ ruler ms (suc t)
-    oldest-is = ap (λ (q : Producer). getD (q .queue) 0 0) twice-is-one-more ∙ oldest ms t k′
+    oldest-is : getD (twice (running ms c s t k p) .queue) 0 0 ≡ ruler (unlocked ms) (suc t)
+    oldest-is = ap (λ (q : Producer). getD (q .queue) 0 0) twice-is-one-more ∙ oldest (unlocked ms) t k′
 
-    left-is : dequeued (twice (running ms c t k p)) ≡ producerAt ms (suc t) k′ (r .p₂)
+    left-is : dequeued (twice (running ms c s t k p)) ≡ producerAt (unlocked ms) (stepsAfter r) (suc t) k′ (r .p₂)
     left-is =
         let at₁ = work-position at (r .first) in
         let fits = work-position at₁ (r .second) .fits in
         let cap = v .capacity in
-        ap dequeued twice-is-one-more ∙ dequeued-is ms t k′ (r .p₂) (omega arith)
+        ap dequeued twice-is-one-more ∙ dequeued-is (unlocked ms) (stepsAfter r) t k′ (r .p₂) (omega arith)
 
     -- it is a digit's: the change of the list
     pub move-call : suc t < size ms
-        → stepOf (running ms c t k p)
-        ≡ record { state = running ms c (suc t) k′ (r .p₂); answer = given (moved (change ms (suc t))) }
+        → stepOf (running ms c s t k p)
+        ≡ record { state = running ms c (stepsAfter r) (suc t) k′ (r .p₂); answer = given (moved (change ms (suc t))) }
     move-call more =
-        let (i, a) = walk-advances ms (v .survey .two) t more in
-        let inside = a .within in
-        let digit = oldest-is ∙ a .digit in
-        removes-digit (running ms c t k p) (removing-call r k′ some) (λ last. omega arith)
-        ∙ ap₂ (moveOf (running ms c t k p)) digit left-is
-        ∙ move-is ms c t i (producerAt ms t k p) (producerAt ms (suc t) k′ (r .p₂)) a more
+        let (i, a) = walk-advances ms (v .survey .one) t more in
+        let entry = getD (twice (running ms c s t k p) .queue) 0 0 in
+        let pos = ruler-pos (unlocked ms) (suc t) in
+        let is = oldest-is in
+        let (few, number) =
+        entry-number ms (v .survey .one) (suc t) i (ruler (unlocked ms) (suc t) - 1) (a .digit) (a .within) (omega arith) in
+        let many = length-moving ms in
+        let digit : getD (movingDigits ms .digits) (entry - 1) 0 ≡ suc i =
+        ap (λ (j : ℕ). getD (movingDigits ms .digits) (j - 1) 0) is
+        ∙ moving-stored ms .digits (ruler (unlocked ms) (suc t) - 1) few
+        ∙ number in
+        removes-digit (running ms c s t k p) (removing-call r k′ some) (λ last. omega arith)
+        ∙ ap₂ (moveOf (running ms c s t k p)) digit left-is
+        ∙ move-is ms c t i (producerAt (unlocked ms) s t k p) (producerAt (unlocked ms) (stepsAfter r) (suc t) k′ (r .p₂)) a more
 
     -- it is the last: the end
     pub end-call : suc t ≡ size ms
-        → stepOf (running ms c t k p)
-        ≡ record { state = walkAt ms c t true (producerAt ms (suc t) k′ (r .p₂)); answer = given ended }
+        → stepOf (running ms c s t k p)
+        ≡ record { state = walkAt ms c t true (producerAt (unlocked ms) (stepsAfter r) (suc t) k′ (r .p₂)); answer = given ended }
     unfolding endOf
     end-call last =
-        let e : ruler ms (suc t) ≡ suc (length ms) = ap (ruler ms) last ∙ ruler-at-end ms (one ms (v .survey .two)) in
-        let n : suc (length ms) ≡ length ms + 1 = omega arith in
-        removes-last (running ms c t k p) (removing-call r k′ some) (oldest-is ∙ e ∙ n) ∙ ap (endOf (running ms c t k p)) left-is
+        let whole : suc t ≡ size (unlocked ms) = last ∙ sym (size-unlocked ms (v .survey .one)) in
+        let e : ruler (unlocked ms) (suc t) ≡ suc (length (unlocked ms)) =
+        ap (ruler (unlocked ms)) whole ∙ ruler-at-end (unlocked ms) (one (unlocked ms) (unlocked-two ms)) in
+        let many = length-moving ms in
+        let n : suc (length (unlocked ms)) ≡ movingDigits ms .count + 1 = omega arith in
+        removes-last (running ms c s t k p) (removing-call r k′ some) (oldest-is ∙ e ∙ n) ∙ ap (endOf (running ms c s t k p)) left-is

@@ -4,7 +4,7 @@ use mathlib.Core.Path.{_≡_}
 use mathlib.Core.List.{List, [], _∷_, _++_}
 use Rattle.gray_theory.specs.Answers.{Answer, refused}
 use Rattle.gray_theory.specs.Engines.{Event, after, answerOf}
-use Rattle.ahead_theory.specs.States.{Walk, survey}
+use Rattle.ahead_theory.specs.States.{Walk, movingRadices}
 use Rattle.ahead_theory.specs.Work.{Work, carry, append, idle, kind}
 use Rattle.ahead_theory.specs.Calls.{Course, faulty, over, dry, removing, course, once, stepOf}
 
@@ -19,7 +19,7 @@ answer w j = answerOf stepOf w j
 -- the work steps of a call. Those of a dry call do not count, and where the walk has ended, or the state is out of range, a call
 -- makes none
 abbrev pub eventsBy : Walk → Course → List Work
-eventsBy w removing = kind (survey w) (w .capacity) (w .producer) ∷ kind (survey w) (w .capacity) (once w) ∷ []
+eventsBy w removing = kind (movingRadices w) (w .capacity) (w .producer) ∷ kind (movingRadices w) (w .capacity) (once w) ∷ []
 eventsBy w dry = []
 eventsBy w over = []
 eventsBy w faulty = []

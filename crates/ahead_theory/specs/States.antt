@@ -7,6 +7,7 @@ use lib.Dec.{ltb, leb}
 use lib.ListN.{length, getD, take}
 use Rattle.gray_theory.specs.Answers.{Answer, given, isGiven}
 use Rattle.gray_theory.specs.Radices.{size}
+use Rattle.gray_theory.specs.Locks.{MovingDigits, unlocked, movingInRange}
 use Rattle.gray_theory.specs.Capacities.{ofSurvey}
 use Rattle.gray_theory.specs.Directions.{allBelow, digitsInRange}
 
@@ -21,12 +22,13 @@ pub record Producer : Type 0 where
   pub steps : ℕ
 
 -- the state: the producer, the moves made (j), the survey (radices and their number n), the capacity c, the word (setting), the
--- directions (down or not), and whether the walk has ended
+-- directions (down or not), whether the walk has ended, and the digits that move, in rising order
 pub record Walk : Type 0 where
   pub producer : Producer
   pub moves : ℕ
   pub radices : List ℕ
   pub n : ℕ
+  pub moving : MovingDigits
   pub word : List ℕ
   pub capacity : ℕ
   pub downs : List Bool
@@ -44,7 +46,11 @@ survey w = take (w .n) (w .radices)
 abbrev pub setting : Walk → List ℕ
 setting w = take (w .n) (w .word)
 
--- the counter's radices: m_1 .. m_n, and m_(n+1) = 2
+-- the radices of the digits that move: work steps, counter and buffer rule run over those alone
+abbrev pub movingRadices : Walk → List ℕ
+movingRadices w = unlocked (survey w)
+
+-- the counter's radices: those of the digits that move, and 2 for one place more
 abbrev pub places : List ℕ → List ℕ
 places ms = ms ++ (2 ∷ [])
 
@@ -74,13 +80,15 @@ abbrev pub stepLimit : ℕ → Bool → ℕ
 stepLimit j ended = 2 * j + cond ended 2 0
 
 -- document 01: the survey and c could be opened; each a_i < m_i; the direction is up at 0 and down at m_i − 1; b_i < m_i; i and
--- the queue's entries lie in 1 to n + 1; the queue holds at most c; j ≤ N − 1; and s ≤ 2 j, or 2 j + 2 once ended. (A state has
--- no room for more than 48 digits, whatever its n.)
+-- the queue's entries lie in 1 to n + 1; the queue holds at most c; j ≤ N − 1; and s ≤ 2 j, or 2 j + 2 once ended. Document 02: the
+-- digits that move are those of the survey; a locked digit is at 0 and up; counter, place and entries are over the digits that move.
+-- (A state has no room for more than 48 digits, whatever its n.)
 unfoldable pub inRange : Walk → Bool
 inRange w =
     leb (w .n) 48
     && isGiven (openCheck (survey w) (w .capacity))
     && digitsInRange (w .n) (w .radices) (w .word) (w .downs)
-    && producerInRange (survey w) (w .capacity) (w .producer)
+    && movingInRange (survey w) (w .moving)
+    && producerInRange (movingRadices w) (w .capacity) (w .producer)
     && ltb (w .moves) (size (survey w))
     && leb (w .producer .steps) (stepLimit (w .moves) (w .ended))

@@ -11,7 +11,7 @@ use Rattle.ahead_theory.specs.Work.{Work, carry, append, idle}
 use Rattle.ahead_theory.specs.Runs.{useful, appends}
 use Rattle.ahead_theory.specs.Demand.{Finished}
 use Rattle.ahead_theory.specs.Entries.{cost-zero}
-use Rattle.ahead_theory.specs.Positions.{Worked, Worked.carried, Worked.appended, Worked.idled, stepsAt, one}
+use Rattle.ahead_theory.specs.Positions.{Worked, Worked.carried, Worked.appended, Worked.idled, Worked.spent, stepsAt, one}
 
 -- ---- one event more
 useful-more : (es : List Work) (e : Work) → useful (es ++ (e ∷ [])) ≡ useful es + useful (e ∷ [])
@@ -93,7 +93,7 @@ tally-work {ms} {t = t} {k = k} {es = es} two (carried h) r =
     let s = r .steps in
     let n = r .entries in
     record { steps = omega arith; entries = omega arith; costs = costed-more ms 0 0 es carry (r .costs) tt }
-tally-work {ms} {t = t} {k = k} {p = p} {es = es} two (appended h room) r =
+tally-work {ms} {t = t} {k = k} {p = p} {es = es} two (appended h room more) r =
     let u = useful-more es append in
     let a = appends-more es append in
     let s = r .steps in
@@ -105,6 +105,12 @@ tally-work {ms} {t = t} {k = k} {p = p} {es = es} two (appended h room) r =
     let here : suc (0 + useful es) ≡ cost ms (suc (0 + appends es)) = rw f (omega arith) in
     record { steps = omega arith; entries = omega arith; costs = costed-more ms 0 0 es append (r .costs) (here, tt) }
 tally-work {ms} {es = es} two (idled h full) r =
+    let u = useful-more es idle in
+    let a = appends-more es idle in
+    let s = r .steps in
+    let n = r .entries in
+    record { steps = omega arith; entries = omega arith; costs = costed-more ms 0 0 es idle (r .costs) tt }
+tally-work {ms} {es = es} two (spent h) r =
     let u = useful-more es idle in
     let a = appends-more es idle in
     let s = r .steps in

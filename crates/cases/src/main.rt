@@ -19,16 +19,18 @@
 // afterwards. The states of both engines are kept from line to line, and at first no survey is open. A step prints the state that
 // it hands back. Between calls one field of a state can be changed, to make up another; such a line has no outcome:
 //
-//     walk FIELD, VALUE                       n, capacity, place, queued, steps, moves, ended
-//     walk FIELD NUMBER, VALUE                radix, digit, down, counter, entry
-//     disks FIELD, VALUE                      n, turn
-//     disks FIELD NUMBER, VALUE               radix, digit, down, peg
+//     walk FIELD, VALUE                       n, moving, capacity, place, queued, steps, moves, ended
+//     walk FIELD NUMBER, VALUE                radix, number, digit, down, counter, entry
+//     disks FIELD, VALUE                      n, moving, turn
+//     disks FIELD NUMBER, VALUE               radix, number, digit, down, peg
 //
-// Digits are numbered from 1, and so are the queue's entries, the oldest first. For `down` (a direction) and `ended` 1 is yes.
+// Digits are numbered from 1, and so are the queue's entries, the oldest first, and the digits that move, the fastest first: `moving`
+// says how many they are, and `number` gives the number of each. For `down` (a direction) and `ended` 1 is yes.
 
 use ahead::Producer;
 use ahead::Walk;
 use bytes::scan::find;
+use digit::MovingDigits;
 use gray::Counted;
 use gray::Opening;
 use gray::Ranked;
@@ -68,6 +70,10 @@ const OPEN: u64 = 0x6f70656e;
 const STEP: u64 = 0x73746570;
 
 const N: u64 = 0x6e;
+
+const MOVING: u64 = 0x6d6f76696e67;
+
+const NUMBER: u64 = 0x6e756d626572;
 
 const CAPACITY: u64 = 0x6361706163697479;
 
@@ -205,52 +211,55 @@ fn print_directions(downs: &[bool], n: u64) {
     }
 }
 
+// A field that says how many bytes there are, and the field that has them, the first of them first.
+fn print_counted(name: u64, count: u8, each: u64, bytes: &[u8]) {
+    print_field(name, wide(count));
+    print_name(each);
+    let n = within(wide(count), bytes);
+    print_bytes(&bytes[..n]);
+}
+
 // What the states of both engines have.
-fn print_survey(n: u64, radices: &[u8], word: &[u8], downs: &[bool]) {
+fn print_survey(n: u64, radices: &[u8], moving: MovingDigits, word: &[u8], downs: &[bool]) {
+    let numbers = moving.digits;
     print_field(N, n);
     print_digits(RADIX, radices, n);
+    print_counted(MOVING, moving.count, NUMBER, &numbers);
     print_digits(DIGIT, word, n);
     print_directions(downs, n);
 }
 
-// The queue's entries, the oldest first.
-fn print_queue(queue: &[u8], queued: u64) {
-    print_field(QUEUED, queued);
-    print_name(ENTRY);
-    let n = within(queued, queue);
-    print_bytes(&queue[..n]);
-}
-
-// A producer of n digits.
-fn print_producer(n: u8, producer: Producer) {
+// A producer over as many digits as move.
+fn print_producer(moving: u8, producer: Producer) {
     let counter = producer.counter;
     let queue = producer.queue;
-    print_digits(COUNTER, &counter, wide(n) + 1);
+    print_digits(COUNTER, &counter, wide(moving) + 1);
     print_field(PLACE, wide(producer.place));
-    print_queue(&queue, wide(producer.queued));
+    print_counted(QUEUED, producer.queued, ENTRY, &queue);
     print_field(STEPS, producer.steps);
 }
 
 fn print_walk(walk: Walk) {
     let radices = walk.radices;
+    let moving = walk.moving;
     let word = walk.word;
     let downs = walk.downs;
-    print_survey(wide(walk.n), &radices, &word, &downs);
+    print_survey(wide(walk.n), &radices, moving, &word, &downs);
     print_field(CAPACITY, wide(walk.capacity));
-    print_producer(walk.n, walk.producer);
+    print_producer(moving.count, walk.producer);
     print_field(MOVES, walk.moves);
     print_field(ENDED, walk.ended as u64);
 }
 
 fn print_towers(towers: Towers) {
-    let n = wide(towers.n);
     let radices = towers.radices;
+    let moving = towers.moving;
     let word = towers.word;
     let downs = towers.downs;
     let pegs = towers.pegs;
-    print_survey(n, &radices, &word, &downs);
+    print_survey(wide(towers.n), &radices, moving, &word, &downs);
     print_field(TURN, wide(towers.turn));
-    print_digits(PEG, &pegs, n);
+    print_digits(PEG, &pegs, wide(moving.count));
 }
 
 fn print_opening(answer: Opening) {
@@ -497,6 +506,16 @@ fn either(meant: bool, value: u8, old: u8) -> u8 {
     if meant { value } else { old }
 }
 
+// The digits that move with one of their fields changed, or none.
+fn moving_with(moving: MovingDigits, name: u64, i: usize, value: u8) -> MovingDigits {
+    let mut digits = moving.digits;
+    put(name == NUMBER, &mut digits, i, value);
+    MovingDigits {
+        digits: digits,
+        count: either(name == MOVING, value, moving.count),
+    }
+}
+
 // A producer with one of its fields changed, or none.
 fn producer_with(producer: Producer, name: u64, i: usize, value: u8) -> Producer {
     let mut counter = producer.counter;
@@ -527,6 +546,7 @@ fn walk_with(walk: Walk, name: u64, i: usize, value: u8) -> Walk {
         n: either(name == N, value, walk.n),
         word: word,
         capacity: either(name == CAPACITY, value, walk.capacity),
+        moving: moving_with(walk.moving, name, i, value),
         downs: downs,
         ended: either(name == ENDED, value, walk.ended as u8) == 1,
     }
@@ -564,8 +584,8 @@ fn walk_counted(walk: Walk, name: u64, value: u64) -> Walk {
 // Whether a walk has such a field: a single byte, or one for each digit or entry.
 fn walk_has(name: u64, single: bool) -> bool {
     match name {
-        N | CAPACITY | PLACE | QUEUED | ENDED => single,
-        RADIX | DIGIT | DOWN | COUNTER | ENTRY => !single,
+        N | MOVING | CAPACITY | PLACE | QUEUED | ENDED => single,
+        RADIX | NUMBER | DIGIT | DOWN | COUNTER | ENTRY => !single,
         _ => false,
     }
 }
@@ -608,14 +628,15 @@ fn towers_with(towers: Towers, name: u64, i: usize, value: u8) -> Towers {
         word: word,
         turn: either(name == TURN, value, towers.turn),
         downs: downs,
+        moving: moving_with(towers.moving, name, i, value),
         pegs: pegs,
     }
 }
 
 fn towers_have(name: u64, single: bool) -> bool {
     match name {
-        N | TURN => single,
-        RADIX | DIGIT | DOWN | PEG => !single,
+        N | MOVING | TURN => single,
+        RADIX | NUMBER | DIGIT | DOWN | PEG => !single,
         _ => false,
     }
 }

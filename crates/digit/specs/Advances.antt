@@ -1,14 +1,15 @@
 -- The call that moves a digit in its direction.
 use Prim.Native.Nat.{ℕ}
 use mathlib.Core.Path.{_≡_, ap}
-use mathlib.Core.Bool.{Bool, true, false, cond}
+use mathlib.Core.Bool.{Bool, true, false, cond, _&&_}
+use lib.Dec.{leb}
 use Rattle.gray_theory.specs.Directions.{movedFrom, turnedAt, digitInRange}
 use Rattle.digit.specs.declared.Directed.{Directed}
 
--- a digit in range moves, and turns where it must; one that is not stays as it came
+-- a digit in range that is not locked moves, and turns where it must; any other stays as it came
 unfoldable pub advancedFrom : ℕ → ℕ → Bool → Directed
 advancedFrom m a down =
-    cond (digitInRange m a down)
+    cond (leb 2 m && digitInRange m a down)
     (record { digit = movedFrom a down; down = turnedAt m (movedFrom a down) down })
     (record { digit = a; down = down })
 
@@ -18,11 +19,11 @@ module _ (m a : ℕ) (down : Bool) where
   advanced-if b =
       cond b (record { digit = movedFrom a down; down = turnedAt m (movedFrom a down) down }) (record { digit = a; down = down })
 
-  pub digit-advanced : digitInRange m a down ≡ true
+  pub digit-advanced : leb 2 m && digitInRange m a down ≡ true
       → advancedFrom m a down ≡ record { digit = movedFrom a down; down = turnedAt m (movedFrom a down) down }
   unfolding advancedFrom
   digit-advanced e = ap advanced-if e
 
-  pub digit-stays : digitInRange m a down ≡ false → advancedFrom m a down ≡ record { digit = a; down = down }
+  pub digit-stays : leb 2 m && digitInRange m a down ≡ false → advancedFrom m a down ≡ record { digit = a; down = down }
   unfolding advancedFrom
   digit-stays e = ap advanced-if e

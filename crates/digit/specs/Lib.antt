@@ -1,2 +1,3 @@
 -- What needs this crate's types.
 pub mod Advances
+pub mod Moving

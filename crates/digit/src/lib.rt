@@ -1,10 +1,15 @@
 // Single digits: the byte of a move, the range rule and the move that both engines make, and bytes as an engine's array.
 ghost use mathlib.Core.Path.{_≡_};
-ghost use Prim.Native.Nat.{_<_};
-ghost use Rattle.gray_theory.specs.Directions.{turnedAt, digitInRange, wordInRange};
+ghost use Prim.Native.Nat.{_<_, _≤_, _+_};
+ghost use mathlib.Core.Bool.{_&&_, _||_};
+ghost use lib.Dec.{eqb, ltb, leb};
+ghost use lib.ListN.{length, take, getD};
+ghost use Rattle.gray_theory.specs.Directions.{turnedAt, digitInRange, digitsInRange, allBelow};
+ghost use Rattle.gray_theory.specs.Locks.{movingDigits as movingDigitsOf, movingInRange};
 ghost use Rattle.gray_theory.specs.Arrays.{digitArray};
 ghost use Rattle.gray_theory.specs.MoveBytes.{moveByte, moveDigit, moveDown};
 ghost use Rattle.digit.specs.Advances.{advancedFrom};
+ghost use Rattle.digit.specs.Moving.{movingAs, countMore, digitsMore, foundMore};
 
 // A digit with its direction.
 pub struct Directed {
@@ -36,22 +41,28 @@ fn digit_in_range(m: u8, a: u8, down: bool) -> bool
     ensures { λ r. ⌜ r ≡ digitInRange m a down ⌝ }
 {
     let top = if m == 0 { 0 } else { m - 1 };
-    (a < m) & (!((a == 0) & down) & !((a == top) & !down))
+    (a < m) & (!((a == 0) & down) & !((2 <= m) & ((a == top) & !down)))
 }
 
-// The range rule for a setting and its directions, which both engines keep. Digits may stand in either order. Tests are gathered
-// over all of them, with no way out in between, so that the loop can run on vectors.
-pub fn digits_in_range(radices: &[u8], word: &[u8], downs: &[bool]) -> bool
-    ensures { λ r. ⌜ r ≡ wordInRange (now (radices .entry)) (now (word .entry)) (now (downs .entry)) ⌝ }
+// A digit in range, or one past the n that count.
+fn passes(n: u8, number: u8, m: u8, a: u8, down: bool) -> bool
+    ensures { λ r. ⌜ r ≡ (ltb n number || digitInRange m a down) ⌝ }
 {
-    let n = radices.len();
-    if (word.len() != n) | (downs.len() != n) {
-        return false;
-    }
+    (n < number) | digit_in_range(m, a, down)
+}
+
+// The range rule for the setting and the directions of n digits, which both engines keep; where n is over 48, of all that the arrays
+// hold. The loop goes over all places, whatever n is, and gathers its tests with no way out in between: three turns on vectors. The
+// place's number is counted as a byte, since an index would be compared as 64 bits.
+pub fn digits_in_range(n: u8, radices: [u8; 48], word: [u8; 48], downs: [bool; 48]) -> bool
+    ensures { λ r. ⌜ r ≡ digitsInRange (length (take n radices)) radices word downs ⌝ }
+{
+    let mut number: u8 = 0;
     let mut ok = true;
     let mut i = 0;
-    while i < n {
-        ok = ok & digit_in_range(radices[i], word[i], downs[i]);
+    while i < 48 {
+        number += 1;
+        ok = ok & passes(n, number, radices[i], word[i], downs[i]);
         i += 1;
     }
     ok
@@ -68,6 +79,12 @@ fn turned(m: u8, a: u8, down: bool) -> bool
 pub fn advanced(m: u8, a: u8, down: bool) -> Directed
     ensures { λ r. ⌜ r ≡ advancedFrom m a down ⌝ }
 {
+    if m < 2 {
+        return Directed {
+            digit: a,
+            down: down,
+        };
+    }
     if !digit_in_range(m, a, down) {
         return Directed {
             digit: a,
@@ -79,6 +96,111 @@ pub fn advanced(m: u8, a: u8, down: bool) -> Directed
         digit: to,
         down: turned(m, to, down),
     }
+}
+
+// The digits of an engine's survey that move, in rising order, and how many they are.
+pub struct MovingDigits {
+    pub digits: [u8; 48],
+    pub count: u8,
+}
+
+// One digit more: its number joins those that move if its radix is at least 2.
+fn joined(m: u8, digit: u8, to: &mut [u8], count: u8) -> u8
+    requires { ⌜ (length (now to) ≡ 48) × (count < 48) ⌝ }
+    ensures { λ r. ⌜ (r ≡ countMore m count) × (now (to .exit) ≡ digitsMore m digit (now (to .entry)) count) ⌝ }
+{
+    if 2 <= m {
+        to[count as usize] = digit;
+        return count + 1;
+    }
+    count
+}
+
+// The digits that move, of radices with digit 1 first; a 49th radix and later ones are left out.
+pub fn moving(radices: &[u8]) -> MovingDigits
+    ensures { λ r. ⌜ movingAs r ≡ movingDigitsOf (take 48 (now (radices .entry))) ⌝ }
+{
+    let mut digits = [0u8; 48];
+    let mut count: u8 = 0;
+    let n = radices.len();
+    let mut i = 0;
+    while (i < n) & (i < 48) {
+        count = joined(radices[i], i as u8 + 1, &mut digits, count);
+        i += 1;
+    }
+    MovingDigits {
+        digits: digits,
+        count: count,
+    }
+}
+
+// A digit that moves and is held at its own place, or one past the n that count.
+fn moves(n: u8, number: u8, m: u8, held: u8) -> bool
+    ensures { λ r. ⌜ r ≡ (ltb n number || (leb 2 m && eqb held number)) ⌝ }
+{
+    (n < number) | ((2 <= m) & (held == number))
+}
+
+// Each of n digits moves, and is held at its own place. One loop over all places, as above.
+fn all_move(n: u8, radices: [u8; 48], held: [u8; 48]) -> bool
+    ensures { λ r. ⌜ r ≡ allBelow (length (take n radices)) (λ i. leb 2 (getD radices i 0) && eqb (getD held i 0) (i + 1)) ⌝ }
+{
+    let mut number: u8 = 0;
+    let mut ok = true;
+    let mut i = 0;
+    while i < 48 {
+        number += 1;
+        ok = ok & moves(n, number, radices[i], held[i]);
+        i += 1;
+    }
+    ok
+}
+
+// How many digits that move have been met, and whether each of them is held at its place among them.
+struct Met {
+    count: usize,
+    ok: bool,
+}
+
+// One digit more.
+fn found(m: u8, number: u8, held: &[u8], seen: Met) -> Met
+    requires { ⌜ seen .count < length (now held) ⌝ }
+    ensures { λ r. ⌜ r ≡ foundMore m number (now (held .entry)) seen ⌝ }
+{
+    if m < 2 {
+        return seen;
+    }
+    let next = seen.count;
+    Met {
+        count: next + 1,
+        ok: seen.ok & (held[next] == number),
+    }
+}
+
+// The digits that are held to move are those that do, whichever they are.
+fn are_moving(n: u8, radices: [u8; 48], stored: MovingDigits) -> bool
+    ensures { λ r. ⌜ r ≡ movingInRange (take n radices) (movingAs stored) ⌝ }
+{
+    let held = stored.digits;
+    let len = n as usize;
+    let mut met = Met { count: 0, ok: true };
+    let mut i = 0;
+    while (i < len) & (i < 48) {
+        met = found(radices[i], i as u8 + 1, &held, met);
+        i += 1;
+    }
+    met.ok & (met.count == stored.count as usize)
+}
+
+// The range rule for the digits that move, of n radices with digit 1 first. Where as many are held as there are digits, each must move.
+pub fn moving_in_range(n: u8, radices: [u8; 48], stored: MovingDigits) -> bool
+    ensures { λ r. ⌜ r ≡ movingInRange (take n radices) (movingAs stored) ⌝ }
+{
+    if (stored.count == n) & (n <= 48) {
+        let held = stored.digits;
+        return all_move(n, radices, held);
+    }
+    are_moving(n, radices, stored)
 }
 
 // Lent bytes as an engine's array: digit 1 first, zeros in the places past the digits.

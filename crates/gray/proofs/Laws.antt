@@ -1,20 +1,21 @@
 -- What a turn of each loop adds, and what a stage's answer says, over plain lists and numbers. Assumes nothing.
 use Prim.Native.Nat.{ℕ, zero, suc, _+_, _-_, _*_, _/_, _%_, _^_, _≤_, _<_}
-use native.Mathlib.Nat.{mul-le-mul, div-lt-iff-lt-mul, le-div-iff-mul-le, mul-comm}
+use native.Mathlib.Nat.{mul-le-mul, mul-le-mul-left, mul-lt-mul-of-pos-right, mul-comm, add-zero, le-of-lt}
+use native.Mathlib.Nat.{div-lt-iff-lt-mul, le-div-iff-mul-le}
 use native.Mathlib.Omega.{arith}
 use mathlib.Core.Path.{_≡_, refl, sym, ap, ap₂, _∙_}
-use mathlib.Core.Bool.{not, Bool, true, false, _&&_, _||_}
-use mathlib.Core.List.{List, _∷_, _++_, reverse-cons}
-use borrow.Author.Tests.{lt-ltb, le-ltb, le-leb, lt-leb, ltb-true, ltb-false}
+use mathlib.Core.Bool.{not, Bool, true, false, _&&_, _||_, and-eq-true-iff}
+use mathlib.Core.List.{List, _∷_, _++_, reverse-cons, reverse-append}
+use borrow.Author.Tests.{lt-ltb, le-ltb, le-leb, lt-leb, ltb-true, ltb-false, leb-true}
 use lib.Dec.{eqb, leb, ltb}
-use lib.ListN.{length, getD, set, take, drop, length-reverse}
-use lib.Seq.{take-all, drop-cons, lt-length-set, getD-set-same, drop-set-lt, append-snoc}
+use lib.ListN.{length, getD, set, take, drop, length-drop, length-reverse}
+use lib.Seq.{take-all, take-add, getD-drop, drop-cons, lt-length-set, getD-set-same, drop-set-lt, append-snoc}
 use Rattle.gray_theory.specs.Answers.{given, refused}
 use Rattle.gray_theory.specs.Radices.{digits, bytes, size, allFrom, wrongCount}
 use Rattle.gray_theory.specs.Calls.{sizeCall, rankCall, wordCall}
 use Rattle.gray_theory.specs.Faults.{Fault.count, Fault.radix, Fault.many, Fault.none, lowest-fault-is-given}
 use Rattle.gray_theory.specs.Refusals.{accepted, radices-accepted}
-use Rattle.gray.specs.Stages.{productAs, checkedAs, checkNumber}
+use Rattle.gray.specs.Stages.{productAs, Taken, checkedAs, checkNumber}
 use Rattle.gray.specs.declared.Checked.{Checked}
 use Rattle.gray.specs.declared.Checked.the-variants.{Fine, Refused as CheckRefused}
 use Rattle.gray.specs.declared.Product.the-variants.{Within, Over}
@@ -22,10 +23,10 @@ use Rattle.gray_theory.specs.Words.{isWord, reflect, rank, member}
 use Rattle.gray_theory.specs.Members.{wordAt, member-is-wordAt, length-wordAt}
 use Rattle.gray_theory.specs.Ranks.{rank-below}
 use Rattle.gray_theory.specs.Digits.{digits-more, size-taken, isWord-taken, word-long}
-use Rattle.gray_theory.specs.Sizes.{allFrom-weaker}
+use Rattle.gray_theory.specs.Sizes.{allFrom-weaker, size-append}
 use Rattle.gray_theory.specs.Bools.{impossible}
 
--- ---- all_two
+-- ---- none_zero
 pub tested-more : (k : ℕ) (l : List ℕ) (i : ℕ) (ok : Bool)
     → i < length l
     → ok ≡ allFrom k (digits (take i l))
@@ -71,7 +72,7 @@ divided-over m p pos h = let t = div-lt-iff-lt-mul pos .0 h in rw (mul-comm m p)
 pub divided-within : (m p : ℕ) → 0 < m → p ≤ 2 ^ 62 / m → m * p ≤ 2 ^ 62
 divided-within m p pos h = rw (mul-comm m p) (le-div-iff-mul-le pos .0 h)
 
--- ---- product_of
+-- ---- one radix more
 size-more : (l : List ℕ) (i m p : ℕ)
     → i < length l
     → m ≡ getD l i 0
@@ -80,35 +81,90 @@ size-more : (l : List ℕ) (i m p : ℕ)
 unfolding size
 size-more l i m p h e f = rw (digits-more l i h, e, f)
 
+-- ---- four and fours
+pub product-below : (a b k : ℕ) → a < k → b < k → a * b < k * k
+product-below a b k h j =
+    let wide : 0 < k = omega arith in
+    let t : a * b ≤ a * k = mul-le-mul-left a (omega arith) in
+    let u = mul-lt-mul-of-pos-right h wide in
+    omega arith
+
+pub product-of-four : (l : List ℕ) (i a b c d : ℕ)
+    → i + 4 ≤ length l
+    → a ≡ getD l i 0
+    → b ≡ getD l (i + 1) 0
+    → c ≡ getD l (i + 2) 0
+    → d ≡ getD l (i + 3) 0
+    → a * b * (c * d) ≡ size (digits (take 4 (drop i l)))
+unfolding size
+product-of-four l i a b c d h ea eb ec ed =
+    let long = length-drop i l in
+    let s = size-more (drop i l) 0 a 1 (omega arith) (rw (getD-drop i l 0 0, add-zero i) ea) refl in
+    let t = size-more (drop i l) 1 b _ (omega arith) (eb ∙ sym (getD-drop i l 1 0)) s in
+    let u = size-more (drop i l) 2 c _ (omega arith) (ec ∙ sym (getD-drop i l 2 0)) t in
+    let v = size-more (drop i l) 3 d _ (omega arith) (ed ∙ sym (getD-drop i l 3 0)) u in
+    let same : a * b * (c * d) ≡ d * (c * (b * (a * 1))) = omega arith in
+    same ∙ v
+
+-- a product is within the limit where one factor's bound is small, or the bounds of both
+pub surely : (p q a b c : ℕ)
+    → q < 2 ^ 32
+    → a * 2 ^ 32 ≤ 2 ^ 62
+    → b * c ≤ 2 ^ 62
+    → (leb p a || (leb p b && leb q c)) ≡ true
+    → p * q ≤ 2 ^ 62
+surely p q a b c h one both e = go (leb p a) refl
+  where
+    go : (t : Bool) → leb p a ≡ t → p * q ≤ 2 ^ 62
+    go true t = let u = mul-le-mul (leb-true p a t) (le-of-lt h) in omega arith
+    go false t =
+        let (low, few) = and-eq-true-iff (leb p b) (leb q c) .0 (ap (λ x. x || (leb p b && leb q c)) (sym t) ∙ e) in
+        let u = mul-le-mul (leb-true p b low) (leb-true q c few) in
+        omega arith
+
+pub taken-none : (l : List ℕ) → Taken l 1 0
+unfolding size
+taken-none l = record { count = omega arith; whole = refl; limit = omega arith }
+
+pub taken-four : (l : List ℕ) (p q i : ℕ)
+    → Taken l p i
+    → i + 4 ≤ length l
+    → q ≡ size (digits (take 4 (drop i l)))
+    → p * q ≤ 2 ^ 62
+    → Taken l (p * q) (i + 4)
+taken-four l p q i so h e small =
+    let parts : size (digits (take (i + 4) l)) ≡ size (digits (take 4 (drop i l))) * size (digits (take i l)) =
+    ap (λ t. size (digits t)) (take-add i 4 l)
+    ∙ ap size (reverse-append (take i l) (take 4 (drop i l)))
+    ∙ size-append (digits (take 4 (drop i l))) (digits (take i l)) in
+    record { count = h; whole = mul-comm p q ∙ ap₂ (λ x y. x * y) e (so .whole) ∙ sym parts; limit = small }
+
+-- ---- product_of
 pub product-more : (l : List ℕ) (i m p q : ℕ)
     → i < length l
     → m ≡ getD l i 0
-    → p ≡ size (digits (take i l))
+    → Taken l p i
     → productAs (m * p) ≡ Within q
-    → (q ≡ size (digits (take (i + 1) l))) × (q ≤ 2 ^ 62)
-product-more l i m p q h e f w =
+    → Taken l q (i + 1)
+product-more l i m p q h e so w =
     let said = within-says (m * p) q w in
-    (said .0 ∙ size-more l i m p h e f, said .1)
+    record { count = omega arith; whole = said .0 ∙ size-more l i m p h e (so .whole); limit = said .1 }
 
 pub product-over : (l : List ℕ) (i m p : ℕ)
-    → allFrom 2 (digits l) ≡ true
+    → allFrom 1 (digits l) ≡ true
     → i < length l
     → m ≡ getD l i 0
-    → p ≡ size (digits (take i l))
+    → Taken l p i
     → productAs (m * p) ≡ Over
     → Over ≡ productAs (size (digits l))
-product-over l i m p two h e f o =
+product-over l i m p least h e so o =
     let large = over-says (m * p) o in
-    let more = size-more l i m p h e f in
-    let rest = size-taken l (i + 1) (allFrom-weaker 2 1 (digits l) (omega arith) two) in
+    let more = size-more l i m p h e (so .whole) in
+    let rest = size-taken l (i + 1) least in
     over (size (digits l)) (omega arith)
 
-pub size-all : (l : List ℕ) (i p : ℕ)
-    → length l ≤ i
-    → p ≡ size (digits (take i l))
-    → p ≤ 2 ^ 62
-    → Within p ≡ productAs (size (digits l))
-size-all l i p h e b = within p b ∙ ap productAs (e ∙ ap (λ t. size (digits t)) (take-all i l h))
+pub size-all : (l : List ℕ) (i p : ℕ) → length l ≤ i → Taken l p i → Within p ≡ productAs (size (digits l))
+size-all l i p h so = within p (so .limit) ∙ ap productAs (so .whole ∙ ap (λ t. size (digits t)) (take-all i l h))
 
 -- ---- size
 module _ (l : List ℕ) where
@@ -119,12 +175,12 @@ module _ (l : List ℕ) where
   unfolding sizeCall
   count-refused e = sym (lowest-fault-is-given (digits l) (count (sym same-count ∙ e)) (given (size (digits l))))
 
-  pub radix-refused : (eqb (length l) 0 || ltb 48 (length l)) ≡ false → allFrom 2 (digits l) ≡ false → refused 3 ≡ sizeCall l
+  pub radix-refused : (eqb (length l) 0 || ltb 48 (length l)) ≡ false → allFrom 1 (digits l) ≡ false → refused 3 ≡ sizeCall l
   unfolding sizeCall
   radix-refused e f = sym (lowest-fault-is-given (digits l) (radix (sym same-count ∙ e) (ap not f)) (given (size (digits l))))
 
   pub size-refused : (eqb (length l) 0 || ltb 48 (length l)) ≡ false
-      → allFrom 2 (digits l) ≡ true
+      → allFrom 1 (digits l) ≡ true
       → productAs (size (digits l)) ≡ Over
       → refused 4 ≡ sizeCall l
   unfolding sizeCall
@@ -134,7 +190,7 @@ module _ (l : List ℕ) where
 
   pub size-given : (n : ℕ)
       → (eqb (length l) 0 || ltb 48 (length l)) ≡ false
-      → allFrom 2 (digits l) ≡ true
+      → allFrom 1 (digits l) ≡ true
       → productAs (size (digits l)) ≡ Within n
       → given n ≡ sizeCall l
   unfolding sizeCall
@@ -176,12 +232,12 @@ module _ (l w : List ℕ) (one : isWord (digits l) (digits w) ≡ true) where
 
   -- a rank of the slowest digits is below N, so nothing overflows
   pub rank-small : (i : ℕ)
-      → allFrom 2 (digits l) ≡ true
+      → allFrom 1 (digits l) ≡ true
       → size (digits l) ≤ 2 ^ 62
       → rank (digits (take i l)) (digits (take i w)) < 2 ^ 62
-  rank-small i two limit =
+  rank-small i least limit =
       let below = rank-below (digits (take i l)) (digits (take i w)) (isWord-taken l w i one) in
-      let part = size-taken l i (allFrom-weaker 2 1 (digits l) (omega arith) two) in
+      let part = size-taken l i least in
       omega arith
 
   pub rank-all : (i p : ℕ) → length l ≤ i → p ≡ rank (digits (take i l)) (digits (take i w)) → p ≡ rank (digits l) (digits w)

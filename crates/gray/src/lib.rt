@@ -3,14 +3,14 @@
 
 ghost use mathlib.Core.Path.{_≡_};
 ghost use mathlib.Core.Bool.{true};
-ghost use Prim.Native.Nat.{_^_, _*_, _≤_, _<_};
-ghost use lib.ListN.{length};
+ghost use Prim.Native.Nat.{_+_, _^_, _*_, _≤_, _<_};
+ghost use lib.ListN.{length, take, drop};
 ghost use Rattle.gray_theory.specs.Answers.{numberOf, Wrote};
 ghost use Rattle.gray_theory.specs.Radices.{digits, size as sizeOf, allFrom};
 ghost use Rattle.gray_theory.specs.Words.{reflect as reflected, isWord, rank as rankOf};
 ghost use Rattle.gray_theory.specs.Calls.{sizeCall, rankCall, wordCall};
 ghost use Rattle.gray.specs.Enums.{countedAs, rankedAs, writtenAs};
-ghost use Rattle.gray.specs.Stages.{productAs, checkedAs, checkNumber, Rankable, Room, putWord};
+ghost use Rattle.gray.specs.Stages.{productAs, Taken, checkedAs, checkNumber, Rankable, Room, putWord};
 
 // What `size` answers: N, the number of words (settings) of a mixed-radix system (a survey).
 pub enum Counted {
@@ -49,6 +49,12 @@ enum Product {
     Over,
 }
 
+// The product of the radices that are taken so far, and how many these are.
+struct Part {
+    product: u64,
+    taken: usize,
+}
+
 // Whether a word passes its check.
 enum Checked {
     Fine,
@@ -59,6 +65,9 @@ const LIMIT: u64 = 0x4000_0000_0000_0000;
 
 // Up to here any radix leaves the product within the limit, and the division is spared.
 const SMALL: u64 = 0x0040_0000_0000_0000;
+
+// Up to here any four radices do, since their product is below 2^32.
+const SMALL_FOR_FOUR: u64 = 0x4000_0000;
 
 impl Counted {
     // The refusal's number, for a caller to pass on; 0 where there is none.
@@ -91,13 +100,13 @@ fn wide(x: u8) -> u64
 }
 
 // The test is gathered over all bytes, with no way out in between, so that the loop can run on vectors.
-fn all_two(radices: &[u8]) -> bool
-    ensures { λ r. ⌜ r ≡ allFrom 2 (digits (now (radices .entry))) ⌝ }
+fn none_zero(radices: &[u8]) -> bool
+    ensures { λ r. ⌜ r ≡ allFrom 1 (digits (now (radices .entry))) ⌝ }
 {
     let mut ok = true;
     let mut i = 0;
     while i < radices.len() {
-        ok = (2 <= radices[i]) & ok;
+        ok = (1 <= radices[i]) & ok;
         i += 1;
     }
     ok
@@ -116,12 +125,54 @@ fn times(p: u64, m: u64) -> Product
     Product::Within(m * p)
 }
 
-fn product_of(radices: &[u8]) -> Product
-    requires { ⌜ allFrom 2 (digits (now radices)) ≡ true ⌝ }
-    ensures { λ r. ⌜ r ≡ productAs (sizeOf (digits (now (radices .entry)))) ⌝ }
+fn four(radices: &[u8], i: usize) -> u64
+    requires { ⌜ i + 4 ≤ length (now radices) ⌝ }
+    ensures { λ r. ⌜ (r ≡ sizeOf (digits (take 4 (drop i (now (radices .entry)))))) × (r < 2 ^ 32) ⌝ }
 {
+    (wide(radices[i]) * wide(radices[i + 1])) * (wide(radices[i + 2]) * wide(radices[i + 3]))
+}
+
+// Whether four radices more, whose product is q, surely leave the product p within the limit: it is small, or they are.
+fn surely_within(p: u64, q: u64) -> bool
+    requires { ⌜ q < 2 ^ 32 ⌝ }
+    ensures { λ r. ⌜ (r ≡ true → p * q ≤ 2 ^ 62) ⌝ }
+{
+    (p <= SMALL_FOR_FOUR) | ((p <= SMALL) & (q <= 256))
+}
+
+// Four radices a turn, so that the product so far waits for one multiplication and not for four. It stops where the product
+// might pass the limit.
+fn fours(radices: &[u8]) -> Part
+    ensures { λ r. ⌜ Taken (now (radices .entry)) (r .product) (r .taken) ⌝ }
+{
+    let n = radices.len();
     let mut p: u64 = 1;
     let mut i = 0;
+    while i + 4 <= n {
+        let q = four(radices, i);
+        if !surely_within(p, q) {
+            return Part {
+                product: p,
+                taken: i,
+            };
+        }
+        p = p * q;
+        i += 4;
+    }
+    Part {
+        product: p,
+        taken: i,
+    }
+}
+
+// The radices that `fours` leaves are taken one a turn, each with the test that tells whether the product is over.
+fn product_of(radices: &[u8]) -> Product
+    requires { ⌜ allFrom 1 (digits (now radices)) ≡ true ⌝ }
+    ensures { λ r. ⌜ r ≡ productAs (sizeOf (digits (now (radices .entry)))) ⌝ }
+{
+    let part = fours(radices);
+    let mut p = part.product;
+    let mut i = part.taken;
     while i < radices.len() {
         let next = times(p, wide(radices[i]));
         let Product::Within(q) = next else {
@@ -141,7 +192,7 @@ pub fn size(radices: &[u8]) -> Counted
     if (n == 0) | (48 < n) {
         return Counted::Refused(2);
     }
-    if !all_two(radices) {
+    if !none_zero(radices) {
         return Counted::Refused(3);
     }
     let whole = product_of(radices);

@@ -6,11 +6,11 @@ use native.Mathlib.Omega.{arith}
 use mathlib.Core.Path.{_≡_, refl, ap, ap₂, _∙_}
 use mathlib.Core.Bool.{Bool, true, false, _&&_, not, and-eq-true-iff, and-false}
 use mathlib.Core.List.{List}
-use borrow.Author.Tests.{lt-ltb, ltb-true, eq-eqb, ne-eqb, not-true, not-false}
-use lib.Dec.{eqb, ltb}
-use lib.ListN.{length, getD, set, take}
-use lib.Seq.{getD-set-same, getD-set-other, getD-take, length-take-le}
-use Rattle.gray_theory.specs.Directions.{movedFrom, turnedAt, wordMoved, downsMoved, allBelow, digitInRange, digitsInRange, wordInRange}
+use borrow.Author.Tests.{lt-ltb, ltb-true, le-leb, leb-true, eq-eqb, eqb-true, ne-eqb, not-true, not-false}
+use lib.Dec.{eqb, ltb, leb}
+use lib.ListN.{length, getD, set}
+use lib.Seq.{getD-set-same, getD-set-other}
+use Rattle.gray_theory.specs.Directions.{movedFrom, turnedAt, wordMoved, downsMoved, allBelow, digitInRange, digitsInRange}
 use Rattle.gray_theory.specs.Bools.{impossible}
 
 -- ---- a test over all numbers below n
@@ -55,23 +55,28 @@ tested-all test ok i n h k e = let same : i ≡ n = omega arith in e ∙ ap (λ 
 pub record DigitRange (m a : ℕ) (down : Bool) : Type 0 where
   pub below : a < m
   pub up-at-0 : a ≡ 0 → down ≡ false
-  pub down-at-top : a ≡ m - 1 → down ≡ true
+  pub down-at-top : 2 ≤ m → a ≡ m - 1 → down ≡ true
 
 pub digit-says : (m a : ℕ) (down : Bool) → digitInRange m a down ≡ true → DigitRange m a down
 digit-says m a down e =
-    let (lower, top) = and-eq-true-iff (ltb a m && not (eqb a 0 && down)) (not (eqb a (m - 1) && not down)) .0 e in
+    let (lower, top) = and-eq-true-iff (ltb a m && not (eqb a 0 && down)) (not (leb 2 m && eqb a (m - 1) && not down)) .0 e in
     let (below, bottom) = and-eq-true-iff (ltb a m) (not (eqb a 0 && down)) .0 lower in
     record {
       below = ltb-true a m below;
       up-at-0 = λ z. not-true down (rw (eq-eqb a 0 z) at bottom);
-      down-at-top = λ z. not-false down (not-true (not down) (rw (eq-eqb a (m - 1) z) at top));
+      down-at-top = λ two z. not-false down (not-true (not down) (rw (le-leb 2 m two, eq-eqb a (m - 1) z) at top));
     }
 
 pub says-digit : (m a : ℕ) (down : Bool) → DigitRange m a down → digitInRange m a down ≡ true
 says-digit m a true s =
     rw (lt-ltb a m (s .below), ne-eqb a 0 (λ z. impossible (cc (s .up-at-0 z))), and-false)
 says-digit m a false s =
-    rw (lt-ltb a m (s .below), ne-eqb a (m - 1) (λ z. impossible (cc (s .down-at-top z))), and-false)
+    rw (lt-ltb a m (s .below), and-false, not-top (leb 2 m) (eqb a (m - 1)) (λ two top. impossible (cc (s .down-at-top (leb-true 2 m two) (eqb-true a (m - 1) top)))))
+  where
+    not-top : (b t : Bool) → (b ≡ true → t ≡ true → ⊥) → not (b && t && true) ≡ true
+    not-top true true h = absurd (h refl refl)
+    not-top true false h = refl
+    not-top false t h = refl
 
 -- a digit that has come to notch b, turned where it must be, stands in range
 turned-in-range : (m b : ℕ) (down : Bool)
@@ -82,13 +87,13 @@ turned-in-range : (m b : ℕ) (down : Bool)
     → DigitRange m b (turnedAt m b down)
 turned-in-range m b down below at-0 at-top apart =
     elim (ℕ-discrete b 0) [
-      | yes z ↦ record { below = below; up-at-0 = λ y. rw (eq-eqb b 0 z, at-0 z); down-at-top = λ t. absurd (apart z t) }
+      | yes z ↦ record { below = below; up-at-0 = λ y. rw (eq-eqb b 0 z, at-0 z); down-at-top = λ two t. absurd (apart z t) }
       | no nz ↦
           elim (ℕ-discrete b (m - 1)) [
             | yes t ↦
                 let down-then : turnedAt m b down ≡ true = rw (ne-eqb b 0 nz, eq-eqb b (m - 1) t, at-top t) in
-                record { below = below; up-at-0 = λ z. absurd (nz z); down-at-top = λ y. down-then }
-            | no nt ↦ record { below = below; up-at-0 = λ z. absurd (nz z); down-at-top = λ t. absurd (nt t) }
+                record { below = below; up-at-0 = λ z. absurd (nz z); down-at-top = λ two y. down-then }
+            | no nt ↦ record { below = below; up-at-0 = λ z. absurd (nz z); down-at-top = λ two t. absurd (nt t) }
           ]
     ]
 
@@ -104,7 +109,7 @@ digit-moves-in-range m a true two e =
     (turned-in-range m (a - 1) true (omega arith) (λ z. refl) (λ t. absurd (off-0 (omega arith))) (λ z t. omega arith))
 digit-moves-in-range m a false two e =
     let s = digit-says m a false e in
-    let off-top : a ≡ m - 1 → ⊥ = λ t. impossible (cc (s .down-at-top t)) in
+    let off-top : a ≡ m - 1 → ⊥ = λ t. impossible (cc (s .down-at-top two t)) in
     says-digit m (a + 1) (turnedAt m (a + 1) false)
     (turned-in-range m (a + 1) false (omega arith) (λ z. absurd (omega arith)) (λ t. refl) (λ z t. omega arith))
 
@@ -142,22 +147,3 @@ digits-move-in-range n radices word downs i h lw ld two e =
     ld
     (digit-moves-in-range (getD radices i 0) (getD word i 0) (getD downs i false) two here)
     e
-
--- only the digits themselves count
-digits-in-range-take : (n : ℕ) (radices word : List ℕ) (downs : List Bool)
-    → digitsInRange n (take n radices) (take n word) (take n downs) ≡ digitsInRange n radices word downs
-digits-in-range-take n radices word downs =
-    allBelow-same n (λ i. digitInRange (getD (take n radices) i 0) (getD (take n word) i 0) (getD (take n downs) i false))
-    (λ i. digitInRange (getD radices i 0) (getD word i 0) (getD downs i false))
-    (λ i h. rw (getD-take n radices i 0 h, getD-take n word i 0 h, getD-take n downs i false h))
-
--- the test of a word, on the first n places of longer lists
-pub digits-tested : (n : ℕ) (radices word : List ℕ) (downs : List Bool)
-    → n ≤ length radices
-    → n ≤ length word
-    → n ≤ length downs
-    → wordInRange (take n radices) (take n word) (take n downs) ≡ digitsInRange n radices word downs
-unfolding wordInRange
-digits-tested n radices word downs r w d =
-    rw (length-take-le n radices r, length-take-le n word w, length-take-le n downs d, eq-eqb n n refl)
-    (digits-in-range-take n radices word downs)

@@ -3,8 +3,8 @@
 use Prim.Native.Nat.{ℕ, zero, suc, _+_, _-_}
 use mathlib.Core.Bool.{Bool, true, false, cond, _&&_, _||_, not}
 use mathlib.Core.List.{List}
-use lib.Dec.{eqb, ltb}
-use lib.ListN.{length, getD, set}
+use lib.Dec.{eqb, ltb, leb}
+use lib.ListN.{getD, set}
 
 -- the notch that a digit at notch a moves to
 abbrev pub movedFrom : ℕ → Bool → ℕ
@@ -27,17 +27,10 @@ unfoldable pub allBelow : ℕ → (ℕ → Bool) → Bool
 allBelow zero test = true
 allBelow (suc n) test = allBelow n test && test n
 
--- a notch and a direction in range: a < m; the direction is up at 0 and down at m − 1
+-- a notch and a direction in range: a < m; the direction is up at 0 and, unless the digit is locked, down at m − 1
 abbrev pub digitInRange : ℕ → ℕ → Bool → Bool
-digitInRange m a down = ltb a m && not (eqb a 0 && down) && not (eqb a (m - 1) && not down)
+digitInRange m a down = ltb a m && not (eqb a 0 && down) && not (leb 2 m && eqb a (m - 1) && not down)
 
 -- the range rule for the setting and the directions of n digits
 abbrev pub digitsInRange : ℕ → List ℕ → List ℕ → List Bool → Bool
 digitsInRange n radices word downs = allBelow n (λ i. digitInRange (getD radices i 0) (getD word i 0) (getD downs i false))
-
--- the same for lists that may be of any length: there is a notch and a direction for each radix, and each stands in range
-unfoldable pub wordInRange : List ℕ → List ℕ → List Bool → Bool
-wordInRange radices word downs =
-    eqb (length word) (length radices)
-    && eqb (length downs) (length radices)
-    && digitsInRange (length radices) radices word downs

@@ -4,6 +4,7 @@
 -- definitions
 pub mod Answers
 pub mod Radices
+pub mod Locks
 pub mod Words
 pub mod Changes
 pub mod Costs
@@ -22,6 +23,7 @@ pub mod Packing
 pub mod RoundTrips
 pub mod Faults
 pub mod Turns
+pub mod Unlocked
 -- laws
 pub mod Bools
 pub mod Sizes
@@ -31,6 +33,7 @@ pub mod Reversals
 pub mod Refusals
 pub mod Capacities
 pub mod DigitRanges
+pub mod Gathers
 pub mod Filled
 pub mod Places
 pub mod WalkArrays

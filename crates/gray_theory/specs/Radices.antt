@@ -24,12 +24,12 @@ unfoldable pub allFrom : ℕ → List ℕ → Bool
 allFrom k [] = true
 allFrom k (m ∷ ms) = leb k m && allFrom k ms
 
--- refusals 2, 3 and 4 of a survey: no sluice or more than 48; a notch count of 0 or 1; N over 2^62
+-- refusals 2, 3 and 4 of a survey: no sluice or more than 48; a notch count of 0; N over 2^62
 abbrev pub wrongCount : List ℕ → Bool
 wrongCount ms = eqb (length ms) 0 || ltb 48 (length ms)
 
 abbrev pub wrongRadix : List ℕ → Bool
-wrongRadix ms = not (allFrom 2 ms)
+wrongRadix ms = not (allFrom 1 ms)
 
 abbrev pub tooMany : List ℕ → Bool
 tooMany ms = ltb (2 ^ 62) (size ms)

@@ -62,7 +62,7 @@ faultless ms rest a e = no-fault (fault ms) rest a (sym (lowest-fault-is-given m
 pub record Limits (ms : List ℕ) : Type 0 where
   pub some : 1 ≤ length ms
   pub most : length ms ≤ 48
-  pub two : allFrom 2 ms ≡ true
+  pub one : allFrom 1 ms ≡ true
   pub limit : size ms ≤ 2 ^ 62
 
 module _ {A : Type 0} (ms : List ℕ) (rest : Answer A) where
@@ -76,7 +76,7 @@ module _ {A : Type 0} (ms : List ℕ) (rest : Answer A) where
       record {
         some = omega arith;
         most = ltb-false 48 (length ms) (count .1);
-        two = not-false (allFrom 2 ms) (p .no-radix);
+        one = not-false (allFrom 1 ms) (p .no-radix);
         limit = ltb-false (2 ^ 62) (size ms) (p .no-many);
       } in
       (limits, p .value)
@@ -85,13 +85,13 @@ module _ {A : Type 0} (ms : List ℕ) (rest : Answer A) where
   limits-pass l =
       let some = l .some in
       rw
-      (ne-eqb (length ms) 0 (λ z. omega arith), le-ltb 48 (length ms) (l .most), l .two, le-ltb (2 ^ 62) (size ms) (l .limit))
+      (ne-eqb (length ms) 0 (λ z. omega arith), le-ltb 48 (length ms) (l .most), l .one, le-ltb (2 ^ 62) (size ms) (l .limit))
 
 -- what holds of accepted radices
 pub record Accepted (l : List ℕ) (n : ℕ) : Type 0 where
   pub some : 0 < length l
   pub most : length l ≤ 48
-  pub two : allFrom 2 (digits l) ≡ true
+  pub one : allFrom 1 (digits l) ≡ true
   pub whole : n ≡ size (digits l)
   pub limit : size (digits l) ≤ 2 ^ 62
 
@@ -105,7 +105,7 @@ accepted l n e =
     record {
       some = omega arith;
       most = omega arith;
-      two = limits .two;
+      one = limits .one;
       whole = sym (given-same (size (digits l)) n value);
       limit = limits .limit;
     }
@@ -135,8 +135,8 @@ module _ (ms : List ℕ) where
   pub survey-accepted : {A : Type 0} (rest : Answer A) (n : ℕ) → sizeCall ms ≡ given n → ofRadices ms rest ≡ rest
   survey-accepted rest n e = sym (ofRadices-reverse ms rest) ∙ radices-accepted ms n rest e
 
-  pub survey-two : (n : ℕ) → sizeCall ms ≡ given n → allFrom 2 ms ≡ true
-  survey-two n e = sym (allFrom-reverse 2 ms) ∙ accepted ms n e .two
+  pub survey-one : (n : ℕ) → sizeCall ms ≡ given n → allFrom 1 ms ≡ true
+  survey-one n e = sym (allFrom-reverse 1 ms) ∙ accepted ms n e .one
 
   pub survey-size : (n : ℕ) → sizeCall ms ≡ given n → (n ≡ size ms) × (n ≤ 2 ^ 62)
   survey-size n e =

@@ -27,4 +27,4 @@ allFrom-reverse k (m ∷ ms) =
     ∙ rw (and-true (leb k m), allFrom-reverse k ms) (and-comm (allFrom k ms) (leb k m))
 
 pub ofRadices-reverse : {A : Type 0} (ms : List ℕ) (rest : Answer A) → ofRadices (digits ms) rest ≡ ofRadices ms rest
-ofRadices-reverse ms rest = rw (length-reverse ms, allFrom-reverse 2 ms, size-reverse ms)
+ofRadices-reverse ms rest = rw (length-reverse ms, allFrom-reverse 1 ms, size-reverse ms)

@@ -32,6 +32,12 @@ allFrom-take k (suc i) (m ∷ ms) e =
     let (first, others) = and-eq-true-iff (leb k m) (allFrom k ms) .0 e in
     rw first (allFrom-take k i ms others)
 
+pub radix-least : (k : ℕ) (ms : List ℕ) (i : ℕ) → allFrom k ms ≡ true → i < length ms → k ≤ getD ms i 0
+unfolding allFrom
+radix-least k [] i e h = absurd (omega arith)
+radix-least k (m ∷ ms) zero e h = leb-true k m (and-eq-true-iff (leb k m) (allFrom k ms) .0 e .0)
+radix-least k (m ∷ ms) (suc i) e h = radix-least k ms i (and-eq-true-iff (leb k m) (allFrom k ms) .0 e .1) (omega arith)
+
 pub radix-two : (ms : List ℕ) (i : ℕ) → allFrom 2 ms ≡ true → i < length ms → 2 ≤ getD ms i 0
 unfolding allFrom
 radix-two [] i two h = absurd (omega arith)

@@ -31,10 +31,10 @@ module _ (ms : List ℕ) where
   pub word-array-start : length ms ≤ 48 → replicate 48 0 ≡ wordArray ms 0
   word-array-start most = sym (ap (filled 48 0) (wordAt-start ms) ∙ filled-replicate 48 0 (length ms) most)
 
-  pub down-array-start : allFrom 2 ms ≡ true → length ms ≤ 48 → replicate 48 false ≡ downArray ms 0
+  pub down-array-start : allFrom 1 ms ≡ true → length ms ≤ 48 → replicate 48 false ≡ downArray ms 0
   down-array-start two most = sym (ap (filled 48 false) (downsAt-start ms two) ∙ filled-replicate 48 false (length ms) most)
 
-  pub arrays-in-range : allFrom 2 ms ≡ true
+  pub arrays-in-range : allFrom 1 ms ≡ true
       → (r : ℕ)
       → digitsInRange (length ms) (filled 48 0 ms) (wordArray ms r) (downArray ms r) ≡ true
   arrays-in-range two r =

@@ -13,8 +13,7 @@ use Rattle.gray_theory.specs.Radices.{digits, bytes, size, allFrom}
 use Rattle.gray_theory.specs.Reversals.{size-reverse}
 use Rattle.gray_theory.specs.Words.{list}
 use Rattle.gray_theory.specs.Calls.{sizeCall}
-use Rattle.gray_theory.specs.Sizes.{allFrom-weaker}
-use Rattle.gray_theory.specs.Refusals.{accepted, radices-accepted, survey-size, survey-two, wrote-bytes}
+use Rattle.gray_theory.specs.Refusals.{accepted, radices-accepted, survey-size, survey-one, wrote-bytes}
 use Rattle.lister_theory.specs.Calls.{wordsFrom, listCall}
 use Rattle.lister_theory.specs.Listers.{listing}
 use Rattle.gray_theory.specs.Places.{placed}
@@ -45,7 +44,7 @@ length-run l r t h =
 pub table-asked : (l : List ℕ) (total : ℕ) → sizeCall l ≡ given total → (length l ≤ 48) × (allFrom 1 l ≡ true) × (size l ≤ 2 ^ 62)
 table-asked l total sized =
     let (whole, limit) = survey-size l total sized in
-    (accepted l total sized .most, allFrom-weaker 2 1 l (omega arith) (survey-two l total sized), omega arith)
+    (accepted l total sized .most, survey-one l total sized, omega arith)
 
 module _ (l : List ℕ) (total : ℕ) (sized : sizeCall l ≡ given total) (r t room : ℕ) where
   -- the checks after those of the radices

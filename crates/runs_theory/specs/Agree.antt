@@ -10,7 +10,8 @@ use Rattle.gray_theory.specs.Answers.{Answer, given}
 use Rattle.gray_theory.specs.MoveBytes.{moveByte}
 use Rattle.gray_theory.specs.Changes.{change}
 use Rattle.gray_theory.specs.Radices.{digits, size, allFrom}
-use Rattle.gray_theory.specs.Sizes.{allFrom-weaker, size-pos}
+use Rattle.gray_theory.specs.Sizes.{size-pos}
+use Rattle.gray_theory.specs.Locks.{unlocked}
 use Rattle.gray_theory.specs.Engines.{Event, moved, Handed, after, answerOf}
 use Rattle.ahead_theory.specs.Calls as ahead
 use Rattle.ahead_theory.specs.Openings as ahead-opens
@@ -83,8 +84,8 @@ run-from-start call ms s d run room =
     let h : 0 < d = run .from-one in
     run-writes call ms s d run room 0 h ∙ ap (λ t. take room (listMoves ms 0 t)) all
 
-some-word : (ms : List ℕ) → allFrom 2 ms ≡ true → 1 ≤ size ms
-some-word ms two = size-pos ms (allFrom-weaker 2 1 ms (omega arith) two)
+some-word : (ms : List ℕ) → allFrom 1 ms ≡ true → 1 ≤ size ms
+some-word ms one = size-pos ms one
 
 -- what an accepted opening and the calls after it write
 run-of-opened : {S : Type 0} (call : S → Handed S Event) (ms : List ℕ) (opened : Handed S Unit) (d room : ℕ)
@@ -99,7 +100,7 @@ run-of-opened {S} call ms opened d room accepted run =
 -- for.
 pub walk-moves-are-the-lists : (radices : List ℕ) (c room : ℕ)
     → ahead.openOf ahead.closedWalk radices c .answer ≡ given tt
-    → length (digits radices) ≤ 2 * c
+    → length (unlocked (digits radices)) ≤ 2 * c
     → walkMovesCall radices c room ≡ given (take room (listMoves (digits radices) 0 (size (digits radices) - 1)))
 unfolding walkMovesCall
 walk-moves-are-the-lists radices c room accepted places =
@@ -107,7 +108,7 @@ walk-moves-are-the-lists radices c room accepted places =
     let walks = fresh-walks-work-ahead ahead.closedWalk radices c accepted .never-dry places in
     run-of-opened ahead.stepOf ms (ahead.openOf ahead.closedWalk radices c) (size ms) room accepted
     (record {
-      from-one = some-word ms (ahead-opens.opens-exactly ahead.closedWalk radices c .0 accepted .survey .two);
+      from-one = some-word ms (ahead-opens.opens-exactly ahead.closedWalk radices c .0 accepted .survey .one);
       moves = λ j a b. walks .moves j a b .answers;
       stops = λ j h rest. ap (λ (a : Answer Event). moveThen a rest) (walks .end j h);
     })
@@ -124,7 +125,7 @@ unfolding walkMovesCall
 walk-moves-begin-the-list radices c accepted =
     let ms = digits radices in
     let works = fresh-walks-work-ahead ahead.closedWalk radices c accepted in
-    elim (decLt (2 * c) (length ms)) [
+    elim (decLt (2 * c) (length (unlocked ms))) [
       | yes few ↦ (
           let (d, dries) = works .dry-within-N few in (
             d,
@@ -140,7 +141,7 @@ walk-moves-begin-the-list radices c accepted =
           )
       | no enough ↦ (
         size ms,
-        some-word ms (ahead-opens.opens-exactly ahead.closedWalk radices c .0 accepted .survey .two),
+        some-word ms (ahead-opens.opens-exactly ahead.closedWalk radices c .0 accepted .survey .one),
         omega arith,
         λ room. walk-moves-are-the-lists radices c room accepted (omega (arith, enough)),
       )
@@ -156,7 +157,7 @@ disk-moves-are-the-lists radices room accepted =
     let walks = disks-walk-the-list towers.closedTowers radices accepted in
     run-of-opened towers.stepOf ms (towers.openOf towers.closedTowers radices) (size ms) room accepted
     (record {
-      from-one = some-word ms (towers-opens.opens-exactly towers.closedTowers radices .0 accepted .survey .two);
+      from-one = some-word ms (towers-opens.opens-exactly towers.closedTowers radices .0 accepted .survey .one);
       moves = λ j a b. walks .moves j a b .answers;
       stops = λ j h rest. ap (λ (a : Answer Event). moveThen a rest) (walks .end j h .answers);
     })
@@ -164,7 +165,7 @@ disk-moves-are-the-lists radices room accepted =
 -- Two controllers, one on each engine, agree on every move.
 pub engines-agree : (radices : List ℕ) (c room : ℕ)
     → ahead.openOf ahead.closedWalk radices c .answer ≡ given tt
-    → length (digits radices) ≤ 2 * c
+    → length (unlocked (digits radices)) ≤ 2 * c
     → towers.openOf towers.closedTowers radices .answer ≡ given tt
     → walkMovesCall radices c room ≡ diskMovesCall radices room
 engines-agree radices c room walk places disks =

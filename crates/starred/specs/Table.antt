@@ -8,6 +8,7 @@ use mathlib.Core.List.{List, [], _∷_, map, flatten}
 use lib.ListN.{length, getD, take, replicate}
 use Rattle.gray_theory.specs.Answers.{Answer, given, refused}
 use Rattle.gray_theory.specs.Radices.{digits, bytes, size, allFrom}
+use Rattle.gray_theory.specs.Locks.{unlocked, moving, movingInRange}
 use Rattle.gray_theory.specs.Words.{upward, downward, notches, through, list, isWord, rank}
 use Rattle.gray_theory.specs.Changes.{Change, difference, change, ruler}
 use Rattle.gray_theory.specs.Costs.{wholeParts, cost}
@@ -97,6 +98,10 @@ abbrev firstLog : List ℕ
 firstLog =
     1 ∷ 2 ∷ 1 ∷ 2 ∷ 1 ∷ 3 ∷ 2 ∷ 2 ∷ 2 ∷ 3 ∷ 1 ∷ 3 ∷ 1 ∷ 3 ∷ 2 ∷ 3 ∷ 129 ∷ 3 ∷ 129 ∷ 4 ∷ 0 ∷ 0 ∷ 0 ∷ 0 ∷ 0 ∷ 0 ∷ 0 ∷ 5 ∷ []
 
+-- the log of one locked sluice, c = 1, t = 0: no move, and the end, since N − 1 is 0
+abbrev lockedLog : List ℕ
+lockedLog = 1 ∷ 1 ∷ 1 ∷ 2 ∷ 1 ∷ 1 ∷ 4 ∷ 0 ∷ 0 ∷ 0 ∷ 0 ∷ 0 ∷ 0 ∷ 0 ∷ 0 ∷ []
+
 unfoldable pub table : List Row
 table =
     -- m2 = 2, m1 = 3
@@ -133,17 +138,19 @@ table =
     -- the same from the buffered engine, c = 3
     ∷ row (lists (lists numbers)) (map (settingAfter (walk (replicate 6 3) 3)) (609 ∷ 610 ∷ 611 ∷ 612 ∷ []))
     ((2 ∷ 1 ∷ 1 ∷ 1 ∷ 0 ∷ 2 ∷ []) ∷ (2 ∷ 1 ∷ 1 ∷ 1 ∷ 0 ∷ 1 ∷ []) ∷ (2 ∷ 1 ∷ 1 ∷ 1 ∷ 0 ∷ 0 ∷ []) ∷ (2 ∷ 1 ∷ 1 ∷ 2 ∷ 0 ∷ 0 ∷ []) ∷ [])
-    -- no sluice; 48 of 2, and 49; notch counts 1, 2 and 255
+    -- no sluice; 48 of 2, and 49; notch counts 0, 1, 2 and 255
     ∷ row (answers numbers) (sizeCall []) (refused 2)
     ∷ row (answers numbers) (sizeCall (replicate 48 2)) (given (2 ^ 48))
     ∷ row (answers numbers) (sizeCall (replicate 49 2)) (refused 2)
-    ∷ row (answers numbers) (sizeCall (1 ∷ [])) (refused 3)
+    ∷ row (answers numbers) (sizeCall (0 ∷ [])) (refused 3)
+    ∷ row (answers numbers) (sizeCall (1 ∷ [])) (given 1)
     ∷ row (answers numbers) (sizeCall (2 ∷ [])) (given 2)
     ∷ row (answers numbers) (sizeCall (255 ∷ [])) (given 255)
     -- the same, opened; and 48 of 2 with c = 32, with c = 33, and with no place at all
     ∷ row (answers units) (openOf closedWalk [] 1 .answer) (refused 2)
     ∷ row (answers units) (openOf closedWalk (replicate 49 2) 25 .answer) (refused 2)
-    ∷ row (answers units) (openOf closedWalk (1 ∷ []) 1 .answer) (refused 3)
+    ∷ row (answers units) (openOf closedWalk (0 ∷ []) 1 .answer) (refused 3)
+    ∷ row (answers units) (openOf closedWalk (1 ∷ []) 1 .answer) (given tt)
     ∷ row (answers units) (openOf closedWalk (2 ∷ []) 1 .answer) (given tt)
     ∷ row (answers units) (openOf closedWalk (255 ∷ []) 1 .answer) (given tt)
     ∷ row (answers units) (openOf closedWalk (replicate 48 2) 32 .answer) (given tt)
@@ -155,11 +162,27 @@ table =
     -- besides: on odd and even counts, and on equal even ones
     ∷ row (answers units) (openDisks closedTowers (3 ∷ 4 ∷ []) .answer) (refused 6)
     ∷ row (answers units) (openDisks closedTowers (4 ∷ 4 ∷ []) .answer) (given tt)
+    -- only the counts of sluices that move are looked at
+    ∷ row (answers units) (openDisks closedTowers (1 ∷ 2 ∷ 2 ∷ []) .answer) (given tt)
+    ∷ row (answers units) (openDisks closedTowers (1 ∷ 2 ∷ 4 ∷ []) .answer) (refused 6)
+    ∷ row (answers units) (openDisks closedTowers (2 ∷ 1 ∷ 3 ∷ []) .answer) (refused 6)
     -- on 3, 5 to the end: the settings are the list
     ∷ row (lists (lists numbers)) (map (diskSettingAfter (disks (3 ∷ 5 ∷ []))) (upward 15)) (wordsOf (3 ∷ 5 ∷ []))
     -- three of 2: the answers, the end and the call after it
     ∷ row (lists (answers events)) (map (answerOf stepDisks (disks (replicate 3 2))) (1 ∷ 2 ∷ 3 ∷ 4 ∷ 5 ∷ 6 ∷ 7 ∷ 8 ∷ 9 ∷ []))
     (names (up 1) ∷ names (up 2) ∷ names (down 1) ∷ names (up 3) ∷ names (up 1) ∷ names (down 2) ∷ names (down 1) ∷ end ∷ end ∷ [])
+    -- a locked sluice between the two of the first case: sluice 3 is named; and among disks on three pegs and on a ring
+    ∷ row (lists (answers events)) (map (answer (walk (2 ∷ 1 ∷ 3 ∷ []) 1)) (1 ∷ 2 ∷ 3 ∷ 4 ∷ 5 ∷ 6 ∷ 7 ∷ []))
+    (names (up 1) ∷ names (up 1) ∷ names (up 3) ∷ names (down 1) ∷ names (down 1) ∷ end ∷ end ∷ [])
+    ∷ row (lists numbers) (map (removal (walk (2 ∷ 1 ∷ 3 ∷ []) 1)) (1 ∷ 2 ∷ 3 ∷ 4 ∷ 5 ∷ 6 ∷ [])) (1 ∷ 1 ∷ 2 ∷ 1 ∷ 1 ∷ 3 ∷ [])
+    ∷ row (lists numbers) (map (stepsAfter (walk (2 ∷ 1 ∷ 3 ∷ []) 1)) (1 ∷ 2 ∷ 3 ∷ 4 ∷ 5 ∷ 6 ∷ [])) (1 ∷ 3 ∷ 4 ∷ 5 ∷ 7 ∷ 9 ∷ [])
+    ∷ row (lists (lists numbers)) (map (settingAfter (walk (2 ∷ 1 ∷ 3 ∷ []) 1)) (upward 6)) (wordsOf (2 ∷ 1 ∷ 3 ∷ []))
+    ∷ row (lists (lists numbers)) (map (diskSettingAfter (disks (3 ∷ 1 ∷ 5 ∷ []))) (upward 15)) (wordsOf (3 ∷ 1 ∷ 5 ∷ []))
+    ∷ row (lists (lists numbers)) (map (diskSettingAfter (disks (1 ∷ 2 ∷ 1 ∷ 2 ∷ 2 ∷ []))) (upward 8)) (wordsOf (1 ∷ 2 ∷ 1 ∷ 2 ∷ 2 ∷ []))
+    -- all locked: the first call is the end, with one useful step
+    ∷ row (lists (answers events)) (map (answer (walk (1 ∷ 1 ∷ []) 1)) (1 ∷ 2 ∷ [])) (end ∷ end ∷ [])
+    ∷ row (lists numbers) (map (stepsAfter (walk (1 ∷ 1 ∷ []) 32)) (0 ∷ 1 ∷ 2 ∷ [])) (0 ∷ 1 ∷ 1 ∷ [])
+    ∷ row (lists (answers events)) (map (answerOf stepDisks (disks (1 ∷ 1 ∷ []))) (1 ∷ 2 ∷ [])) (end ∷ end ∷ [])
     -- zero settings from rank N, and one
     ∷ row (answers (lists numbers)) (listCall (2 ∷ 3 ∷ []) 6 0 0) (given [])
     ∷ row (answers (lists numbers)) (listCall (2 ∷ 3 ∷ []) 6 1 2) (refused 8)
@@ -173,6 +196,11 @@ table =
     ∷ row (answers (lists numbers)) (writeCall (2 ∷ 3 ∷ []) 1 5 28) (given firstLog)
     ∷ row (answers numbers) (readCall firstLog) (given 5)
     ∷ row (answers numbers) (readCall (take 19 firstLog)) (refused 11)
+    -- all locked: the log of no moves has its end record, and without it gets 11; one move is too many
+    ∷ row (answers (lists numbers)) (writeCall (1 ∷ []) 1 0 15) (given lockedLog)
+    ∷ row (answers numbers) (readCall lockedLog) (given 0)
+    ∷ row (answers numbers) (readCall (take 6 lockedLog)) (refused 11)
+    ∷ row (answers (lists numbers)) (writeCall (1 ∷ []) 1 1 17) (refused 8)
     -- besides: the part with its moves, its room, and logs that name no sluice and 49
     ∷ row (lists numbers) (movesCall firstLog) (3 ∷ 1 ∷ 3 ∷ 1 ∷ 3 ∷ 2 ∷ 3 ∷ 129 ∷ 3 ∷ 129 ∷ [])
     ∷ row (answers (lists numbers)) (writeCall (2 ∷ 3 ∷ []) 1 5 27) (refused 9)
@@ -191,7 +219,7 @@ each (r ∷ rs) e zero h = r .test .shows (r .computed) (r .said) (and-eq-true-i
 each (r ∷ rs) e (suc i) h = each rs (and-eq-true-iff (r .test .same (r .computed) (r .said)) (passes rs) .0 e .1) i (omega arith)
 
 tested : passes table ≡ true
-unfolding passes table sizeCall rankCall size allFrom upward downward notches through list isWord rank difference ruler wholeParts allBelow after producerInRange inRange kind done fresh openOf course dequeued endOf moveOf stepOf eventsOf allOdd allEvenAndEqual disksInRange pegOf smallest chosen freshDisks openDisks moveDisk stepDisks listCall flatten blocks listing moveByte highFirst digitRecords movesFrom logOf movesThenEnd digitsThenMoves shaped radicesOf countMoves sameBytes writeCall readCall movesCall
+unfolding passes table unlocked moving movingInRange sizeCall rankCall size allFrom upward downward notches through list isWord rank difference ruler wholeParts allBelow after producerInRange inRange kind done fresh openOf course dequeued endOf moveOf stepOf eventsOf allOdd allEvenAndEqual disksInRange pegOf smallest chosen freshDisks openDisks moveDisk stepDisks listCall flatten blocks listing moveByte highFirst digitRecords movesFrom logOf movesThenEnd digitsThenMoves shaped radicesOf countMoves sameBytes writeCall readCall movesCall
 tested = refl
 
 -- every row of the table holds

@@ -1,4 +1,5 @@
 -- Laws that the proofs of several functions cite.
 pub mod Games
+pub mod Plays
 pub mod Ranges
 pub mod Steps

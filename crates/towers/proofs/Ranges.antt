@@ -1,43 +1,280 @@
 -- What a stage of an opening or of the range rule says, over plain lists, numbers and states. Assumes nothing.
-use Prim.Native.Nat.{ℕ, _≤_, _<_}
+use Prim.Native.Nat.{ℕ, suc, _+_, _-_, _≤_, _<_}
 use native.Mathlib.Omega.{arith}
-use mathlib.Core.Path.{_≡_, refl, sym, ap, ap₂, _∙_}
-use mathlib.Core.Bool.{Bool, true, false, cond, _&&_, _||_, not, and-false, and-assoc, Bool·not-not}
-use mathlib.Core.List.{List}
-use borrow.Author.Tests.{le-leb, lt-leb}
-use lib.Dec.{ltb, leb}
+use mathlib.Core.Path.{_≡_, refl, sym, ap, ap₂, subst, _∙_}
+use mathlib.Core.Bool.{Bool, true, false, cond, _&&_, _||_, not, and-eq-true-iff, and-true, and-false, Bool·not-not}
+use mathlib.Core.List.{List, _∷_}
+use borrow.Author.Tests.{le-leb, lt-leb, leb-true, eqb-true}
+use lib.Dec.{eqb, ltb, leb}
 use lib.ListN.{length, getD, take, length-reverse}
-use lib.Seq.{length-take-le, getD-take}
-use Rattle.gray_theory.specs.Answers.{given, refused, refusing, isGiven}
-use Rattle.gray_theory.specs.Radices.{digits}
+use lib.Seq.{length-take-le, getD-take, take-all}
+use Rattle.gray_theory.specs.Answers.{Answer, given, refused, refusing, isGiven}
+use Rattle.gray_theory.specs.Bools.{impossible}
+use Rattle.gray_theory.specs.Radices.{digits, ofRadices}
+use Rattle.gray_theory.specs.Locks.{MovingDigits, unlocked, movingDigits, movingInRange}
+use Rattle.gray_theory.specs.Unlocked.{moving-says, says-moving, moving-stored, unlocked-most, unlocked-two}
+use Rattle.gray_theory.specs.Unlocked.{number-at, number-direct}
 use Rattle.gray_theory.specs.Words.{even}
 use Rattle.gray_theory.specs.Arrays.{filled, digitArray}
-use Rattle.gray_theory.specs.Directions.{allBelow, digitsInRange, wordInRange}
+use Rattle.gray_theory.specs.Directions.{allBelow, digitsInRange}
 use Rattle.gray_theory.specs.Calls.{sizeCall}
 use Rattle.gray_theory.specs.Engines.{refusedWith}
-use Rattle.gray_theory.specs.DigitRanges.{allBelow-same, digits-tested}
+use Rattle.gray_theory.specs.DigitRanges.{allBelow-same}
 use Rattle.gray_theory.specs.Filled.{take-filled, length-filled, digit-array}
-use Rattle.gray_theory.specs.Refusals.{accepted, radices-accepted, survey-refused, survey-accepted, given-unless}
+use Rattle.gray_theory.specs.Refusals.{Limits, within-limits, limits-pass, accepted, given-unless}
+use Rattle.gray_theory.specs.Refusals.{radices-accepted, survey-refused, survey-accepted}
 use Rattle.gray_theory.specs.Sizes.{radix-two}
-use Rattle.towers_theory.specs.States.{Towers, allOdd, common, allEvenAndEqual, wrongCounts, openCheck, survey, turnInRange, pegsInRange, inRange}
+use Rattle.towers_theory.specs.States.{Towers, common, wrongCounts, openCheck, survey, disks}
+use Rattle.towers_theory.specs.States.{turnInRange, pegsInRange, inRange}
+use Rattle.towers_theory.specs.Choices.{digitOf}
 use Rattle.towers_theory.specs.Calls.{freshWith, fresh, openWith, openOf}
-use Rattle.towers_theory.specs.Openings.{Openable, openable}
-use Rattle.towers_theory.specs.InRange.{Arrays, odd-by-first}
+use Rattle.towers_theory.specs.Openings.{openable}
+use Rattle.towers_theory.specs.InRange.{Arrays, DiskDigit, range-says}
+use Rattle.towers.specs.Stages.{limitsCheck, surveyFits, lastRadix, plays, DigitAt}
+use Rattle.towers.proofs.Plays.{playableCounts, counts-played, Leads, last-leads}
 
--- the test of the counts, as the code makes it
-abbrev playableCounts : List ℕ → Bool
-playableCounts ms = allOdd ms || allEvenAndEqual ms
+-- ---- the first part of the range rule
+module _ (s : Towers) where
+  pub digits-over : 48 < s .n → false ≡ surveyFits s
+  unfolding surveyFits
+  digits-over h = sym (rw (lt-leb (s .n) 48 h))
+
+-- the code counts the digits as a wide number, and looks at the first k places of its array
+module _ (s : Towers) (k : ℕ) (wide : k ≡ s .n) where
+  same-survey : take k (s .radices) ≡ survey s
+  same-survey = ap (λ j. take j (s .radices)) wide
+
+  pub radices-refused : (number : ℕ) → sizeCall (take k (s .radices)) ≡ refused number → false ≡ surveyFits s
+  unfolding surveyFits
+  radices-refused number e =
+      let right = movingInRange (survey s) (s .moving) in
+      let fails : isGiven (limitsCheck (survey s)) ≡ false =
+      survey-refused (survey s) (given tt) number (ap sizeCall (sym same-survey) ∙ e) in
+      sym (ap (λ b. leb (s .n) 48 && b && right) fails ∙ ap (λ b. b && right) (and-false (leb (s .n) 48)))
+
+  pub moving-decides : (total : ℕ) (ok : Bool)
+      → s .n ≤ 48
+      → sizeCall (take k (s .radices)) ≡ given total
+      → ok ≡ movingInRange (survey s) (s .moving)
+      → ok ≡ surveyFits s
+  unfolding surveyFits
+  moving-decides total ok most accept tested =
+      let passes : isGiven (limitsCheck (survey s)) ≡ true =
+      ap isGiven (survey-accepted (survey s) (given tt) total (ap sizeCall (sym same-survey) ∙ accept)) in
+      tested
+      ∙ sym (ap₂ (λ a b. a && b && movingInRange (survey s) (s .moving)) (le-leb (s .n) 48 most) passes)
+
+-- what it says
+pub record Fits (s : Towers) : Type 0 where
+  pub most : s .n ≤ 48
+  pub limits : Limits (survey s)
+  pub moving : movingInRange (survey s) (s .moving) ≡ true
+
+pub fits-says : (s : Towers) → surveyFits s ≡ true → Fits s
+unfolding surveyFits
+fits-says s e =
+    let most = leb (s .n) 48 in
+    let limits = isGiven (limitsCheck (survey s)) in
+    let (two, m) = and-eq-true-iff (most && limits) (movingInRange (survey s) (s .moving)) .0 e in
+    let (one, l) = and-eq-true-iff most limits .0 two in
+    record { most = leb-true (s .n) 48 one; limits = by (limitsCheck (survey s)) refl l; moving = m }
+  where
+    by : (a : Answer Unit) → limitsCheck (survey s) ≡ a → isGiven a ≡ true → Limits (survey s)
+    by (refused k) f t = impossible (cc)
+    by (given u) f t = within-limits (survey s) (given tt) u f .0
+
+pub says-fits : (s : Towers) → Fits s → surveyFits s ≡ true
+unfolding surveyFits
+says-fits s f =
+    let passes : isGiven (limitsCheck (survey s)) ≡ true = ap isGiven (limits-pass (survey s) (given tt) (f .limits)) in
+    ap₂ (λ a b. a && b && movingInRange (survey s) (s .moving)) (le-leb (s .n) 48 (f .most)) passes ∙ f .moving
+
+module _ (s : Towers) (long : Arrays s) (f : Fits s) where
+  pub disk-count : s .moving .count ≡ length (disks s)
+  disk-count = moving-says (survey s) (s .moving) (f .moving) .count
+
+  room : s .n ≤ length (s .radices)
+  room = let most = f .most in let all = long .radices in omega arith
+
+  pub survey-count : length (survey s) ≡ s .n
+  survey-count = length-take-le (s .n) (s .radices) room
+
+  held : length (survey s) ≤ length (s .moving .digits)
+  held = let most = f .most in let all = long .moving in let n = survey-count in omega arith
+
+  pub count-most : s .moving .count ≤ 48
+  count-most =
+      let n = survey-count in
+      let few = unlocked-most (survey s) in
+      let many = disk-count in
+      let most = f .most in
+      omega arith
+
+  pub digit-of : (i : ℕ) → i < s .moving .count → DiskDigit s i
+  digit-of i h =
+      let (o, number, inside, radix) = number-at (s .radices) (s .n) (s .moving) room held (f .limits .one) (f .moving) i h in
+      let many = disk-count in
+      let least = radix-two (disks s) i (unlocked-two (survey s)) (omega arith) in
+      record { index = o; number = number; within = inside; radix = radix; two = omega arith }
+
+  -- the place of its number among those that move
+  pub digit-at : (i : ℕ) → i < s .moving .count → DigitAt (eqb (s .moving .count) (s .n)) (s .moving .digits) i
+  digit-at i h =
+      let most = count-most in
+      let all = long .moving in
+      let is = digit-of i h .number in
+      record {
+        within = omega arith;
+        from-one = omega arith;
+        direct = λ free.
+            let same = eqb-true (s .moving .count) (s .n) free in
+            number-direct (s .radices) (s .n) (s .moving) room held (f .limits .one) (f .moving) same i (omega arith);
+      }
+
+  -- the radix of the last disk
+  pub last-none : s .moving .count ≡ 0 → 1 ≡ lastRadix (disks s)
+  last-none none =
+      let z : length (disks s) ≡ 0 = sym disk-count ∙ none in
+      sym (ap (λ k. getD (1 ∷ disks s) k 0) z)
+
+  pub last-at : (at i : ℕ) → suc i ≡ s .moving .count → at + 1 ≡ digitOf s i → getD (s .radices) at 0 ≡ lastRadix (disks s)
+  last-at at i last named =
+      let d = digit-of i (omega arith) in
+      let is = d .number in
+      let here : at ≡ d .index = omega arith in
+      let end : suc i ≡ length (disks s) = last ∙ disk-count in
+      ap (λ k. getD (s .radices) k 0) here ∙ d .radix ∙ ap (λ k. getD (1 ∷ disks s) k 0) end
+
+  -- ---- the game's test
+  module _ (m : ℕ) (told : m ≡ lastRadix (disks s)) where
+    pub game-tested : (played : Bool)
+        → played ≡ allBelow (length (survey s)) (λ i. plays m (getD (s .radices) i 0))
+        → played ≡ playableCounts (disks s)
+    game-tested played e =
+        let n = survey-count in
+        e
+        ∙ allBelow-same (length (survey s)) (λ i. plays m (getD (s .radices) i 0))
+        (λ i. plays (lastRadix (disks s)) (getD (survey s) i 0))
+        (λ i h. ap₂ plays told (sym (getD-take (s .n) (s .radices) i 0 (omega arith))))
+        ∙ counts-played (survey s) (f .limits .one)
+
+    pub leading : playableCounts (disks s) ≡ true → Leads (disks s) m
+    leading e =
+        let leads = last-leads (disks s) (unlocked-two (survey s)) e in
+        let least = leads .positive in
+        record {
+          odd = leads .odd ∙ ap (λ k. not (even k)) (sym told);
+          ring = λ ring. leads .ring ring ∙ sym told;
+          positive = omega arith;
+        }
+
+    -- ---- the rest of the range rule
+    module _ (notches played : Bool)
+        (e : notches ≡ digitsInRange (length (survey s)) (s .radices) (s .word) (s .downs))
+        (p : played ≡ allBelow (length (survey s)) (λ i. plays m (getD (s .radices) i 0)))
+      where
+        opens : isGiven (openCheck (survey s)) ≡ played
+        opens =
+            ap isGiven (limits-pass (survey s) (refusing 6 (wrongCounts (survey s)) (given tt)) (f .limits))
+            ∙ given-unless 6 (wrongCounts (survey s)) tt
+            ∙ Bool·not-not (playableCounts (disks s))
+            ∙ sym (game-tested played p)
+
+        -- the parts in the order of the code
+        ordered : (o d t q : Bool) → d && o && (t && q) ≡ true && o && d && true && t && q
+        ordered true true t q = refl
+        ordered true false t q = refl
+        ordered false true t q = refl
+        ordered false false t q = refl
+
+        parts : (t q : Bool)
+            → turnInRange (disks s) (s .turn) ≡ t
+            → pegsInRange (disks s) (s .pegs) ≡ q
+            → notches && played && (t && q) ≡ inRange s
+        unfolding inRange
+        parts t q turn pegs =
+            let n : digitsInRange (s .n) (s .radices) (s .word) (s .downs) ≡ notches =
+            ap (λ k. digitsInRange k (s .radices) (s .word) (s .downs)) (sym survey-count) ∙ sym e in
+            ordered played notches t q
+            ∙ sym (rw (le-leb (s .n) 48 (f .most), opens, n, f .moving, turn, pegs))
+
+        -- what is left to test matters only where the game is played
+        rest-tested : (rest : Bool)
+            → (Leads (disks s) m → rest ≡ turnInRange (disks s) (s .turn) && pegsInRange (disks s) (s .pegs))
+            → notches && played && rest ≡ inRange s
+        rest-tested rest r = go played refl
+          where
+            nothing : (a c d : Bool) → a && false && c ≡ a && false && d
+            nothing true c d = refl
+            nothing false c d = refl
+
+            go : (b : Bool) → played ≡ b → notches && played && rest ≡ inRange s
+            go true is =
+                ap (λ c. notches && played && c) (r (leading (sym (game-tested played p) ∙ is)))
+                ∙ parts (turnInRange (disks s) (s .turn)) (pegsInRange (disks s) (s .pegs)) refl refl
+            go false is =
+                ap (λ c. notches && c && rest) is
+                ∙ nothing notches rest (turnInRange (disks s) (s .turn) && pegsInRange (disks s) (s .pegs))
+                ∙ sym (ap (λ c. notches && c && (turnInRange (disks s) (s .turn) && pegsInRange (disks s) (s .pegs))) is)
+                ∙ parts (turnInRange (disks s) (s .turn)) (pegsInRange (disks s) (s .pegs)) refl refl
+
+        -- on pairs, and on a ring
+        abbrev by-game : ℕ → ℕ → Bool → Bool
+        by-game c k odd = ltb (s .turn) (cond odd 2 c) && (odd || allBelow k (λ i. leb (getD (s .pegs) i 0) c))
+
+        pub pairs-tested : not (even m) ≡ true → notches && played && ltb (s .turn) 2 ≡ inRange s
+        pairs-tested odd =
+            rest-tested (ltb (s .turn) 2)
+            (λ leads.
+            sym (ap (by-game (common (disks s)) (length (disks s))) (leads .odd ∙ odd) ∙ and-true (ltb (s .turn) 2)))
+
+        pub ring-tested : (within : Bool)
+            → not (even m) ≡ false
+            → within ≡ allBelow (length (take (s .moving .count) (s .pegs))) (λ i. leb (getD (s .pegs) i 0) m)
+            → notches && played && (ltb (s .turn) m && within) ≡ inRange s
+        ring-tested within ring w =
+            rest-tested (ltb (s .turn) m && within)
+            (λ leads.
+            let none = leads .odd ∙ ring in
+            let most = count-most in
+            let room = long .pegs in
+            let many : length (take (s .moving .count) (s .pegs)) ≡ length (disks s) =
+            length-take-le (s .moving .count) (s .pegs) (omega arith) ∙ disk-count in
+            sym
+            (ap (by-game (common (disks s)) (length (disks s))) none
+            ∙ ap₂ (λ (c : ℕ) (k : ℕ). by-game c k false) (leads .ring none) (sym many)
+            ∙ ap (λ b. ltb (s .turn) m && b) (sym w)))
+
+-- ---- a state in range
+pub ranged-fits : (s : Towers) → inRange s ≡ true → Fits s
+ranged-fits s e =
+    let says = range-says s e in
+    record { most = says .most; limits = openable (survey s) (says .opens) .survey; moving = says .moving }
+
+pub survey-wrong : (s : Towers) → surveyFits s ≡ false → false ≡ inRange s
+survey-wrong s e = by (inRange s) refl
+  where
+    by : (b : Bool) → inRange s ≡ b → false ≡ inRange s
+    by false f = sym f
+    by true f = let right = says-fits s (ranged-fits s f) in impossible (cc)
 
 -- ---- an opening
-module _ (s : Towers) (l : List ℕ) where
-  pub opening-refused : (k : ℕ) → refused k ≡ openCheck (digits l) → refusedWith k s ≡ openOf s l
-  unfolding openOf
-  opening-refused k e = ap (openWith s (digits l)) e
+pub opening-refused : (s : Towers) (l : List ℕ) (k : ℕ) → refused k ≡ openCheck (digits l) → refusedWith k s ≡ openOf s l
+unfolding openOf
+opening-refused s l k e = ap (openWith s (digits l)) e
 
 -- once the radices are accepted, their array holds all of them
 module _ (l : List ℕ) (total : ℕ) (accept : sizeCall l ≡ given total) (array : List ℕ) (made : array ≡ digitArray l) where
   whole : array ≡ filled 48 0 (digits l)
   whole = made ∙ digit-array l (accepted l total accept .most)
+
+  digits-limits : Limits (digits l)
+  digits-limits =
+      let a = accepted l total accept in
+      let same = length-reverse l in
+      let some = a .some in
+      let most = a .most in
+      record { some = omega arith; most = omega arith; one = a .one; limit = a .limit }
 
   pub array-room : length l ≤ length array
   array-room =
@@ -46,143 +283,66 @@ module _ (l : List ℕ) (total : ℕ) (accept : sizeCall l ≡ given total) (arr
       let long : length array ≡ 48 = ap length whole ∙ length-filled 48 0 (digits l) (omega arith) in
       omega arith
 
-  array-digits : take (length l) array ≡ digits l
-  array-digits =
-      ap (λ k. take k array) (sym (length-reverse l)) ∙ ap (take (length (digits l))) whole ∙ take-filled 48 0 (digits l)
+  -- the part of it that is lent
+  lent : take 48 (take (length l) array) ≡ digits l
+  lent =
+      let most = accepted l total accept .most in
+      let same = length-reverse l in
+      ap (λ k. take 48 (take k array)) (sym same)
+      ∙ ap (λ a. take 48 (take (length (digits l)) a)) whole
+      ∙ ap (take 48) (take-filled 48 0 (digits l))
+      ∙ take-all 48 (digits l) (omega arith)
 
-  pub array-some : 0 < length (take (length l) array)
-  array-some =
-      let some = accepted l total accept .some in
-      let same = length-take-le (length l) array array-room in
-      omega arith
+  -- the fresh state, made of the array and the digits that move
+  module _
+      (moving : MovingDigits) (told : moving ≡ movingDigits (take 48 (take (length l) array)))
+      (opened : Towers) (is : opened ≡ freshWith array (length l) moving)
+    where
+      new : opened ≡ fresh (digits l)
+      unfolding fresh
+      new =
+          is
+          ∙ ap₂ (λ a k. freshWith a k moving) whole (sym (length-reverse l))
+          ∙ ap (freshWith (filled 48 0 (digits l)) (length (digits l))) (told ∙ ap movingDigits lent)
 
-  module _ (s : Towers) (ok : Bool) (tested : ok ≡ playableCounts (take (length l) array)) where
-    counts-passed : (wrong : Bool) → not ok ≡ wrong → openCheck (digits l) ≡ refusing 6 wrong (given tt)
-    counts-passed wrong e =
-        let same : wrongCounts (digits l) ≡ wrong = sym (ap not (tested ∙ ap playableCounts array-digits)) ∙ e in
-        radices-accepted l total (refusing 6 (wrongCounts (digits l)) (given tt)) accept ∙ ap (λ b. refusing 6 b (given tt)) same
+      own-survey : survey opened ≡ digits l
+      unfolding fresh
+      own-survey = ap survey new ∙ take-filled 48 0 (digits l)
 
-    pub counts-refused : not ok ≡ true → refusedWith 6 s ≡ openOf s l
-    counts-refused e = opening-refused s l 6 (sym (counts-passed true e))
+      fresh-says : Fits opened
+      unfolding fresh
+      fresh-says =
+          let count : opened .n ≡ length (digits l) = ap (λ t. t .n) new in
+          let most = digits-limits .most in
+          record {
+            most = omega arith;
+            limits = subst Limits (sym own-survey) digits-limits;
+            moving = ap₂ movingInRange own-survey (ap (λ t. t .moving) new)
+                ∙ says-moving (digits l) (movingDigits (digits l)) (moving-stored (digits l));
+          }
 
-    pub opening-given : not ok ≡ false
-        → (opened : Towers)
-        → opened ≡ freshWith array (length l)
-        → record { state = opened; answer = given tt } ≡ openOf s l
-    unfolding openOf fresh
-    opening-given e opened f =
-        let new : opened ≡ fresh (digits l) = f ∙ ap₂ freshWith whole (sym (length-reverse l)) in
-        ap (λ t. record { state = t; answer = given tt }) new ∙ ap (openWith s (digits l)) (sym (counts-passed false e))
+      pub fresh-fits : surveyFits opened ≡ true
+      fresh-fits = says-fits opened fresh-says
 
--- ---- a survey that is or could be opened
-module _ (s : Towers) (long : length (s .radices) ≡ 48) (most : s .n ≤ 48) (o : Openable (survey s)) where
-  survey-count : length (survey s) ≡ s .n
-  survey-count = length-take-le (s .n) (s .radices) (omega arith)
+      module _
+          (s : Towers) (long : Arrays opened) (m : ℕ) (last : m ≡ lastRadix (disks opened)) (ok : Bool)
+          (tested : ok ≡ allBelow (length (take (opened .n) array)) (λ i. plays m (getD array i 0)))
+        where
+          counts-passed : (wrong : Bool) → not ok ≡ wrong → openCheck (digits l) ≡ refusing 6 wrong (given tt)
+          counts-passed wrong e =
+              let held : array ≡ opened .radices = sym (ap (λ t. t .radices) is) in
+              let right =
+              game-tested opened long fresh-says m last ok
+              (tested ∙ ap (λ a. allBelow (length (take (opened .n) a)) (λ i. plays m (getD a i 0))) held) in
+              let same : wrongCounts (digits l) ≡ wrong =
+              sym (ap not (right ∙ ap (λ ms. playableCounts (unlocked ms)) own-survey)) ∙ e in
+              radices-accepted l total (refusing 6 (wrongCounts (digits l)) (given tt)) accept
+              ∙ ap (λ b. refusing 6 b (given tt)) same
 
-  pub disk-one : 0 < s .n
-  disk-one =
-      let count = survey-count in
-      let some = o .survey .some in
-      omega arith
+          pub counts-refused : not ok ≡ true → refusedWith 6 s ≡ openOf s l
+          counts-refused e = opening-refused s l 6 (sym (counts-passed true e))
 
-  pub first-radix : common (survey s) ≡ getD (s .radices) 0 0
-  first-radix = getD-take (s .n) (s .radices) 0 0 disk-one
-
-  pub odd-radix : allOdd (survey s) ≡ not (even (getD (s .radices) 0 0))
-  odd-radix = odd-by-first (survey s) (o .survey .some) (o .counts) ∙ ap (λ m. not (even m)) first-radix
-
-  pub radix-least : (i : ℕ) → i < s .n → 2 ≤ getD (s .radices) i 0
-  radix-least i h =
-      let count = survey-count in
-      rw (getD-take (s .n) (s .radices) i 0 h) at (radix-two (survey s) i (o .survey .two) (omega arith))
-
--- ---- the range rule
--- the test of the pegs, which is made for even counts only
-abbrev pub pegsPass : List ℕ → ℕ → Bool
-pegsPass pegs m = allBelow (length pegs) (λ i. leb (getD pegs i 0) m)
-
-or-is : (a b : Bool) → cond a true b ≡ (a || b)
-or-is true b = refl
-or-is false b = refl
-
-module _ (s : Towers) where
-  pub digits-over : 48 < s .n → false ≡ inRange s
-  unfolding inRange
-  digits-over h = sym (rw (lt-leb (s .n) 48 h))
-
-  pub not-open : isGiven (openCheck (survey s)) ≡ false → false ≡ inRange s
-  unfolding inRange
-  not-open e = sym (rw (e, and-false (leb (s .n) 48)))
-
--- the code counts the disks as a wide number, and looks at the first k places of its arrays
-module _ (s : Towers) (k : ℕ) (wide : k ≡ s .n) where
-  same-survey : take k (s .radices) ≡ survey s
-  same-survey = ap (λ j. take j (s .radices)) wide
-
-  pub radices-refused : (number : ℕ) → sizeCall (take k (s .radices)) ≡ refused number → false ≡ inRange s
-  radices-refused number e =
-      not-open s
-      (survey-refused (survey s) (refusing 6 (wrongCounts (survey s)) (given tt)) number (ap sizeCall (sym same-survey) ∙ e))
-
-  -- once the radices are accepted the counts decide
-  pub counts-open : (total : ℕ) (ok : Bool)
-      → sizeCall (take k (s .radices)) ≡ given total
-      → ok ≡ playableCounts (take k (s .radices))
-      → isGiven (openCheck (survey s)) ≡ ok
-  counts-open total ok accept tested =
-      let counts = refusing 6 (wrongCounts (survey s)) (given tt) in
-      ap isGiven (survey-accepted (survey s) counts total (ap sizeCall (sym same-survey) ∙ accept))
-      ∙ given-unless 6 (wrongCounts (survey s)) tt
-      ∙ Bool·not-not (playableCounts (survey s))
-      ∙ sym (tested ∙ ap playableCounts same-survey)
-
-  -- the last stage goes by the radix of digit 1
-  module _ (long : Arrays s) (most : s .n ≤ 48) (opens : isGiven (openCheck (survey s)) ≡ true) where
-    abbrev m : ℕ
-    m = getD (s .radices) 0 0
-
-    can-open : Openable (survey s)
-    can-open = openable (survey s) opens
-
-    by-radix : allOdd (survey s) ≡ not (even m)
-    by-radix = odd-radix s (long .radices) most can-open
-
-    first : common (survey s) ≡ m
-    first = first-radix s (long .radices) most can-open
-
-    turn-tested : (turns : ℕ) → turns ≡ cond (not (even m)) 2 m → ltb (s .turn) turns ≡ turnInRange (survey s) (s .turn)
-    turn-tested turns e = ap (ltb (s .turn)) (e ∙ ap₂ (λ b n. cond b 2 n) (sym by-radix) (sym first))
-
-    pegs-tested : (within : Bool)
-        → within ≡ cond (not (even m)) true (pegsPass (take k (s .pegs)) m)
-        → within ≡ pegsInRange (survey s) (s .pegs)
-    pegs-tested within e =
-        let count : length (take k (s .pegs)) ≡ length (survey s) =
-        length-take-le k (s .pegs) (omega arith) ∙ wide ∙ sym (survey-count s (long .radices) most can-open) in
-        let inside : length (survey s) ≡ k = sym count ∙ length-take-le k (s .pegs) (omega arith) in
-        e
-        ∙ or-is (not (even m)) (pegsPass (take k (s .pegs)) m)
-        ∙ ap₂ _||_ (sym by-radix)
-        (ap (λ n. allBelow n (λ i. leb (getD (take k (s .pegs)) i 0) m)) count
-        ∙ allBelow-same (length (survey s)) (λ i. leb (getD (take k (s .pegs)) i 0) m)
-        (λ i. leb (getD (s .pegs) i 0) (common (survey s)))
-        (λ i h. ap₂ leb (getD-take k (s .pegs) i 0 (omega arith)) (sym first)))
-
-    digits-ranged : (notches : Bool)
-        → notches ≡ wordInRange (take k (s .radices)) (take k (s .word)) (take k (s .downs))
-        → notches ≡ digitsInRange (s .n) (s .radices) (s .word) (s .downs)
-    digits-ranged notches e =
-        e
-        ∙ digits-tested k (s .radices) (s .word) (s .downs) (omega arith) (omega arith) (omega arith)
-        ∙ ap (λ n. digitsInRange n (s .radices) (s .word) (s .downs)) wide
-
-    pub state-tested : (notches within : Bool) (turns : ℕ)
-        → notches ≡ wordInRange (take k (s .radices)) (take k (s .word)) (take k (s .downs))
-        → turns ≡ cond (not (even m)) 2 m
-        → within ≡ cond (not (even m)) true (pegsPass (take k (s .pegs)) m)
-        → notches && (ltb (s .turn) turns && within) ≡ inRange s
-    unfolding inRange
-    state-tested notches within turns e f g =
-        rw (le-leb (s .n) 48 most, opens)
-        (sym (and-assoc notches (ltb (s .turn) turns) within)
-        ∙ ap₂ _&&_ (ap₂ _&&_ (digits-ranged notches e) (turn-tested turns f)) (pegs-tested within g))
+          pub opening-given : not ok ≡ false → record { state = opened; answer = given tt } ≡ openOf s l
+          unfolding openOf
+          opening-given e =
+              ap (λ t. record { state = t; answer = given tt }) new ∙ ap (openWith s (digits l)) (sym (counts-passed false e))

@@ -1,5 +1,5 @@
--- What the code of this crate adds to the definitions and theorems of the crate `towers_theory`: the structs that are declared here
--- in its terms, and what only private functions cite.
+-- What the code of this crate adds to the definitions and theorems of the crate `towers_theory`: the structs that are declared
+-- here in its terms, and what only private functions cite.
 
 -- definitions
 pub mod Structs

@@ -1,5 +1,6 @@
 -- The structs in document 01's terms.
 use Rattle.gray_theory.specs.Engines.{Event, Handed}
+use Rattle.digit.specs.Moving.{movingAs}
 use Rattle.gray.specs.Enums.{openingAs, steppingAs}
 use Rattle.towers_theory.specs.States.{Towers}
 use Rattle.towers.specs.declared.Towers.{Towers as TowersStruct}
@@ -11,6 +12,7 @@ abbrev pub towersAs : TowersStruct → Towers
 towersAs s = record {
   radices = s .radices;
   n = s .n;
+  moving = movingAs (s .moving);
   word = s .word;
   turn = s .turn;
   downs = s .downs;

@@ -9,17 +9,19 @@ use Rattle.gray_theory.specs.Answers.{Answer, given, refused}
 use Rattle.gray_theory.specs.Radices.{digits}
 use Rattle.gray_theory.specs.Words.{even}
 use Rattle.gray_theory.specs.Arrays.{filled}
+use Rattle.gray_theory.specs.Locks.{MovingDigits, movingDigits}
 use Rattle.gray_theory.specs.Directions.{wordMoved, downsMoved}
 use Rattle.gray_theory.specs.Engines.{Event, moved, ended, Handed, refusedWith}
-use Rattle.towers_theory.specs.States.{Towers, allOdd, common, openCheck, survey, inRange}
-use Rattle.towers_theory.specs.Choices.{sweeping, chosen}
+use Rattle.towers_theory.specs.States.{Towers, allOdd, common, openCheck, disks, inRange}
+use Rattle.towers_theory.specs.Choices.{digitOf, sweeping, chosen}
 
 -- ---- opening
 -- the fresh state of the n radices in an array: the setting all 0, directions all up, turn 0, all disks on peg 0
-abbrev pub freshWith : List ℕ → ℕ → Towers
-freshWith radices n = record {
+abbrev pub freshWith : List ℕ → ℕ → MovingDigits → Towers
+freshWith radices n moving = record {
   radices = radices;
   n = n;
+  moving = moving;
   word = replicate 48 0;
   turn = 0;
   downs = replicate 48 false;
@@ -27,7 +29,7 @@ freshWith radices n = record {
 }
 
 unfoldable pub fresh : List ℕ → Towers
-fresh ms = freshWith (filled 48 0 ms) (length ms)
+fresh ms = freshWith (filled 48 0 ms) (length ms) (movingDigits ms)
 
 -- the state of no survey
 abbrev pub closedTowers : Towers
@@ -47,7 +49,7 @@ abbrev pub turnBy : Bool → ℕ → ℕ → ℕ
 turnBy odd m turn = cond odd (1 - turn) (cond (sweeping m turn) (turn + 1) 0)
 
 abbrev pub turnAfter : Towers → ℕ
-turnAfter s = turnBy (allOdd (survey s)) (common (survey s)) (s .turn)
+turnAfter s = turnBy (allOdd (disks s)) (common (disks s)) (s .turn)
 
 -- the next peg of a ring of m + 1, clockwise and the other way
 abbrev pub clockwise : ℕ → ℕ → ℕ
@@ -63,7 +65,7 @@ pegAfter m i peg = cond (even (suc i)) (anticlockwise m peg) (clockwise m peg)
 -- the stored pegs after disk i + 1 has moved; for odd counts as they came
 abbrev pub pegsAfter : Towers → ℕ → List ℕ
 pegsAfter s i =
-    cond (allOdd (survey s)) (s .pegs) (set (s .pegs) i (pegAfter (common (survey s)) i (getD (s .pegs) i 0)))
+    cond (allOdd (disks s)) (s .pegs) (set (s .pegs) i (pegAfter (common (disks s)) i (getD (s .pegs) i 0)))
 
 -- disk i + 1 moves, and its digit one notch in its direction, which turns if the digit is then at an end
 unfoldable pub moveOf : Towers → ℕ → Handed Towers Event
@@ -72,12 +74,13 @@ moveOf s i = record {
       record {
         radices = s .radices;
         n = s .n;
-        word = wordMoved (s .word) (s .downs) i;
+        moving = s .moving;
+        word = wordMoved (s .word) (s .downs) (digitOf s i - 1);
         turn = turnAfter s;
-        downs = downsMoved (s .radices) (s .word) (s .downs) i;
+        downs = downsMoved (s .radices) (s .word) (s .downs) (digitOf s i - 1);
         pegs = pegsAfter s i;
       };
-  answer = given (moved (record { digit = suc i; down = getD (s .downs) i false }));
+  answer = given (moved (record { digit = digitOf s i; down = getD (s .downs) (digitOf s i - 1) false }));
 }
 
 -- where no disk can be chosen the walk has ended, and the state stays as it is, turn included

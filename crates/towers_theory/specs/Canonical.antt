@@ -1,14 +1,17 @@
 -- The state of the disk engine at rank r: everything in it follows from r.
-use Prim.Native.Nat.{ℕ, suc, _%_, _≤_, _<_}
+use Prim.Native.Nat.{ℕ, suc, _-_, _%_, _≤_, _<_}
 use native.Mathlib.Omega.{arith}
 use native.Mathlib.Nat.{mod-lt, zero-mod}
 use mathlib.Core.Path.{_≡_, refl, sym, ap, ap₂, _∙_}
-use mathlib.Core.Bool.{Bool, true, false, cond, not, and-eq-true-iff}
+use mathlib.Core.Bool.{Bool, true, false, cond, not, _||_, and-eq-true-iff}
 use mathlib.Core.List.{List, [], _∷_}
 use borrow.Author.Tests.{eqb-true, eqb-false, not-true}
 use lib.Dec.{eqb}
 use lib.ListN.{length, getD, replicate, length-replicate}
 use Rattle.gray_theory.specs.Answers.{isGiven}
+use Rattle.gray_theory.specs.Radices.{allFrom}
+use Rattle.gray_theory.specs.Locks.{MovingDigits, unlocked, movingDigits}
+use Rattle.gray_theory.specs.Unlocked.{unlocked-two, unlocked-most, movingDigit, says-moving, moving-stored}
 use Rattle.gray_theory.specs.Words.{even}
 use Rattle.gray_theory.specs.Arrays.{filled}
 use Rattle.gray_theory.specs.DigitRanges.{allBelow-each}
@@ -16,11 +19,11 @@ use Rattle.gray_theory.specs.Members.{wordAt, length-wordAt}
 use Rattle.gray_theory.specs.Sizes.{radix-two}
 use Rattle.gray_theory.specs.WalkArrays.{wordArray, downArray, take-word-array, word-array-start, down-array-start, arrays-in-range}
 use Rattle.gray_theory.specs.Filled.{take-filled, getD-filled, filled-replicate}
-use Rattle.towers_theory.specs.States.{Towers, allOdd, common, evenAndEqual, allEvenAndEqual, survey, setting, inRange}
+use Rattle.towers_theory.specs.States.{Towers, allOdd, common, evenAndEqual, allEvenAndEqual, survey, setting, disks, inRange}
 use Rattle.towers_theory.specs.Calls.{fresh}
 use Rattle.towers_theory.specs.Choices.{pegOf}
 use Rattle.towers_theory.specs.Openings.{Openable, opens}
-use Rattle.towers_theory.specs.InRange.{says-range}
+use Rattle.towers_theory.specs.InRange.{says-range, some-disk}
 use Rattle.towers_theory.specs.Pairs.{sideAt}
 use Rattle.towers_theory.specs.Rings.{pegsAt, length-pegsAt, pegsAt-start, pegsAt-bound}
 
@@ -37,7 +40,20 @@ all-same : (ms : List ℕ) (m : ℕ) → ((i : ℕ) → i < length ms → getD m
 all-same [] m same = refl
 all-same (a ∷ ms) m same = ap₂ (λ b l. b ∷ l) (same 0 (omega arith)) (all-same ms m (λ i h. same (suc i) (omega arith)))
 
-pub form : (ms : List ℕ) → Openable ms → Form ms
+-- what the game needs to know of the counts of its disks
+pub record Playable (ms : List ℕ) : Type 0 where
+  pub two : allFrom 2 ms ≡ true
+  pub counts : (allOdd ms || allEvenAndEqual ms) ≡ true
+
+-- those of the digits of an open survey that move
+pub playable : {ms : List ℕ} → Openable ms → Playable (unlocked ms)
+playable {ms} o = record { two = unlocked-two ms; counts = o .counts }
+
+-- on a ring there is a disk, and its count is at least 2
+pub ring-two : {ms : List ℕ} → Playable ms → allOdd ms ≡ false → 2 ≤ common ms
+ring-two {ms} o e = radix-two ms 0 (o .two) (some-disk ms e)
+
+pub form : (ms : List ℕ) → Playable ms → Form ms
 unfolding allOdd allEvenAndEqual
 form ms o = go (allOdd ms) refl
   where
@@ -62,19 +78,20 @@ unfoldable pub towersAt : List ℕ → ℕ → Towers
 towersAt ms r = record {
   radices = filled 48 0 ms;
   n = length ms;
+  moving = movingDigits ms;
   word = wordArray ms r;
-  turn = turnAt ms r;
+  turn = turnAt (unlocked ms) r;
   downs = downArray ms r;
-  pegs = filled 48 0 (storedAt ms r);
+  pegs = filled 48 0 (storedAt (unlocked ms) r);
 }
 
-pub same-towers : {radices : List ℕ} {n : ℕ} {word word′ : List ℕ} {turn turn′ : ℕ} {downs downs′ : List Bool} {pegs pegs′ : List ℕ}
+pub same-towers : {radices : List ℕ} {n : ℕ} {moving : MovingDigits} {word word′ : List ℕ} {turn turn′ : ℕ} {downs downs′ : List Bool} {pegs pegs′ : List ℕ}
     → word ≡ word′
     → turn ≡ turn′
     → downs ≡ downs′
     → pegs ≡ pegs′
-    → _≡_ {A = Towers} (record { radices = radices; n = n; word = word; turn = turn; downs = downs; pegs = pegs })
-    (record { radices = radices; n = n; word = word′; turn = turn′; downs = downs′; pegs = pegs′ })
+    → _≡_ {A = Towers} (record { radices = radices; n = n; moving = moving; word = word; turn = turn; downs = downs; pegs = pegs })
+    (record { radices = radices; n = n; moving = moving; word = word′; turn = turn′; downs = downs′; pegs = pegs′ })
 same-towers w t d p = cc
 
 -- the peg of the disk at index k at rank r
@@ -93,22 +110,33 @@ module _ (ms : List ℕ) (r : ℕ) where
   unfolding towersAt
   survey-at = take-filled 48 0 ms
 
+  pub disks-at : disks (towersAt ms r) ≡ unlocked ms
+  disks-at = ap unlocked survey-at
+
   pub setting-at : setting (towersAt ms r) ≡ wordAt ms r
   unfolding towersAt
   setting-at = take-word-array ms r
 
-  pub peg-at : (k : ℕ) → k < length ms → pegOf (towersAt ms r) k ≡ pegAt ms r k
+  abbrev ws : List ℕ
+  ws = unlocked ms
+
+  pub peg-at : allFrom 1 ms ≡ true → (k : ℕ) → k < length ws → pegOf (towersAt ms r) k ≡ pegAt ws r k
   unfolding towersAt pegOf pegAt
-  peg-at k h =
+  peg-at one k h =
       let w = length-wordAt ms r in
-      let l = length-storedAt ms r in
-      let notch = getD-filled 48 0 (wordAt ms r) k 0 (omega arith) in
-      let stored = getD-filled 48 0 (storedAt ms r) k 0 (omega arith) in
-      rw (take-filled 48 0 ms, getD-filled 48 0 ms k 0 h, notch, stored) (go (allOdd ms))
+      let l = length-storedAt ws r in
+      let m = movingDigit ms one k h in
+      let inside = m .within in
+      let digit : getD (movingDigits ms .digits) k 0 ≡ suc (m .index) = moving-stored ms .digits k h ∙ m .number in
+      let index : suc (m .index) - 1 ≡ m .index = omega arith in
+      let radix = getD-filled 48 0 ms (m .index) 0 inside ∙ m .radix in
+      let notch = getD-filled 48 0 (wordAt ms r) (m .index) 0 (omega arith) ∙ m .notch r in
+      let stored = getD-filled 48 0 (storedAt ws r) k 0 (omega arith) in
+      rw (take-filled 48 0 ms, digit, index, radix, notch, stored) (go (allOdd ws))
     where
       go : (b : Bool)
-          → cond b (sideAt ms r k) (getD (cond b (replicate (length ms) 0) (pegsAt false (common ms) (length ms) r)) k 0)
-          ≡ cond b (sideAt ms r k) (getD (pegsAt false (common ms) (length ms) r) k 0)
+          → cond b (sideAt ws r k) (getD (cond b (replicate (length ws) 0) (pegsAt false (common ws) (length ws) r)) k 0)
+          ≡ cond b (sideAt ws r k) (getD (pegsAt false (common ws) (length ws) r) k 0)
       go true = refl
       go false = refl
 
@@ -132,18 +160,20 @@ unfolding towersAt fresh
 fresh-is ms o =
     same-towers
     (word-array-start ms (o .survey .most))
-    (turn-start ms)
-    (down-array-start ms (o .survey .two) (o .survey .most))
-    (sym (ap (filled 48 0) (stored-start ms) ∙ filled-replicate 48 0 (length ms) (o .survey .most)))
+    (turn-start (unlocked ms))
+    (down-array-start ms (o .survey .one) (o .survey .most))
+    (let few = unlocked-most ms in
+    let most = o .survey .most in
+    sym (ap (filled 48 0) (stored-start (unlocked ms)) ∙ filled-replicate 48 0 (length (unlocked ms)) (omega arith)))
 
 -- every state is in range
-module _ (ms : List ℕ) (o : Openable ms) (r : ℕ) where
+module _ (ms : List ℕ) (o : Playable ms) (r : ℕ) where
   turn-below : turnAt ms r < cond (allOdd ms) 2 (common ms)
-  turn-below = go (allOdd ms)
+  turn-below = go (allOdd ms) refl
     where
-      go : (b : Bool) → cond b (r % 2) (r % common ms) < cond b 2 (common ms)
-      go true = omega arith
-      go false = let two = radix-two ms 0 (o .survey .two) (o .survey .some) in mod-lt r (omega arith)
+      go : (b : Bool) → allOdd ms ≡ b → cond b (r % 2) (r % common ms) < cond b 2 (common ms)
+      go true e = omega arith
+      go false e = let two = ring-two o e in mod-lt r (omega arith)
 
   pegs-below : allOdd ms ≡ false → (i : ℕ) → i < length ms → getD (filled 48 0 (storedAt ms r)) i 0 ≤ common ms
   pegs-below e i h =
@@ -152,6 +182,7 @@ module _ (ms : List ℕ) (o : Openable ms) (r : ℕ) where
       (e, getD-filled 48 0 (pegsAt false (common ms) (length ms) r) i 0 (omega arith))
       (pegsAt-bound false (common ms) (length ms) r i)
 
+module _ (ms : List ℕ) (o : Openable ms) (r : ℕ) where
   pub towers-in-range : inRange (towersAt ms r) ≡ true
   unfolding towersAt
   towers-in-range =
@@ -159,7 +190,8 @@ module _ (ms : List ℕ) (o : Openable ms) (r : ℕ) where
       (record {
         most = o .survey .most;
         opens = rw (survey-at ms r) (ap isGiven (opens o));
-        notches = arrays-in-range ms (o .survey .two) r;
-        turns = rw (survey-at ms r) turn-below;
-        within = rw (survey-at ms r) pegs-below;
+        notches = arrays-in-range ms (o .survey .one) r;
+        moving = rw (survey-at ms r) (says-moving ms (movingDigits ms) (moving-stored ms));
+        turns = rw (survey-at ms r) (turn-below (unlocked ms) (playable o) r);
+        within = rw (survey-at ms r) (pegs-below (unlocked ms) (playable o) r);
       })

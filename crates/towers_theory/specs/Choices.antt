@@ -1,12 +1,12 @@
--- Where the disks are, and which one a call moves (document 01, "The disk engine"; document 004, sections 7 and 8). The disk of
--- digit i + 1 stands at index i; disk 1 is the smallest.
+-- Where the disks are, and which one a call moves (document 01, "The disk engine"; document 004, sections 7 and 8). Disk i + 1, of
+-- the digit that moves at index i of those, stands at index i; disk 1 is the smallest.
 use Prim.Native.Nat.{ℕ, zero, suc, _-_}
 use mathlib.Core.Bool.{Bool, cond, _&&_, _||_, not}
 use mathlib.Core.Option.{Option, none, some}
 use lib.Dec.{eqb, ltb}
 use lib.ListN.{getD}
 use Rattle.gray_theory.specs.Directions.{allBelow}
-use Rattle.towers_theory.specs.States.{Towers, allOdd, common, survey}
+use Rattle.towers_theory.specs.States.{Towers, allOdd, common, disks}
 
 -- ---- pegs
 -- the three pegs of odd counts
@@ -23,9 +23,14 @@ right = 2
 abbrev pub sidePeg : ℕ → ℕ → ℕ
 sidePeg m a = cond (eqb a 0) left (cond (eqb a (m - 1)) right middle)
 
+-- the number of the digit of disk i + 1
+abbrev pub digitOf : Towers → ℕ → ℕ
+digitOf s i = getD (s .moving .digits) i 0
+
 -- the peg of a disk: for odd counts it follows from the notch, for even ones it is stored
 unfoldable pub pegOf : Towers → ℕ → ℕ
-pegOf s i = cond (allOdd (survey s)) (sidePeg (getD (s .radices) i 0) (getD (s .word) i 0)) (getD (s .pegs) i 0)
+pegOf s i =
+    cond (allOdd (disks s)) (sidePeg (getD (s .radices) (digitOf s i - 1) 0) (getD (s .word) (digitOf s i - 1) 0)) (getD (s .pegs) i 0)
 
 -- ---- the disk chosen
 -- a disk, or else the other one
@@ -56,12 +61,12 @@ elsewhere s i = not (eqb (pegOf s i) (pegOf s 0))
 
 -- odd counts: the smallest disk on the two pegs of the turn
 abbrev pub chosenOnPair : Towers → Option ℕ
-chosenOnPair s = smallest (s .n) (λ i. onPair (s .turn) (pegOf s i))
+chosenOnPair s = smallest (s .moving .count) (λ i. onPair (s .turn) (pegOf s i))
 
 -- even counts: disk 1 in its sweep; after it the smallest top disk on the other pegs
 abbrev pub chosenOnRing : Towers → Option ℕ
 chosenOnRing s =
-    cond (sweeping (common (survey s)) (s .turn)) (some 0) (smallest (s .n) (λ i. isTop s i && elsewhere s i))
+    cond (sweeping (common (disks s)) (s .turn)) (some 0) (smallest (s .moving .count) (λ i. isTop s i && elsewhere s i))
 
 unfoldable pub chosen : Towers → Option ℕ
-chosen s = cond (allOdd (survey s)) (chosenOnPair s) (chosenOnRing s)
+chosen s = cond (allOdd (disks s)) (chosenOnPair s) (chosenOnRing s)

@@ -4,8 +4,10 @@ use Prim.Native.Nat.{ℕ, suc, _-_, _≤_, _<_}
 use mathlib.Core.Path.{_≡_}
 use mathlib.Core.Bool.{Bool, true}
 use mathlib.Core.List.{List}
+use lib.ListN.{length, getD}
 use Rattle.gray_theory.specs.Answers.{Answer, given}
 use Rattle.gray_theory.specs.Radices.{size}
+use Rattle.gray_theory.specs.Locks.{moving}
 use Rattle.gray_theory.specs.Words.{member}
 use Rattle.gray_theory.specs.Engines.{Event, moved, ended, after, answerOf, Names}
 use Rattle.towers_theory.specs.States.{Towers, setting, inRange}
@@ -39,5 +41,6 @@ pub record WalksTheList (ms : List ℕ) (s : Towers) : Type 0 where
   pub in-range : (t : ℕ) → inRange (state s t) ≡ true
   pub rules : (j i : ℕ) (down : Bool)
       → 1 ≤ j
-      → answer s j ≡ given (moved (record { digit = suc i; down = down }))
+      → i < length (moving ms)
+      → answer s j ≡ given (moved (record { digit = getD (moving ms) i 0; down = down }))
       → Allowed s j i

@@ -3,31 +3,33 @@
 use Prim.Native.Nat.{ℕ, suc, _-_, _≤_, _<_}
 use native.Mathlib.Decide.{decLt, ℕ-discrete}
 use native.Mathlib.Omega.{arith}
-use mathlib.Core.Path.{_≡_, refl, ap, _∙_}
+use mathlib.Core.Path.{_≡_, refl, sym, ap, _∙_}
 use mathlib.Core.Bool.{Bool, true, false, cond, _&&_, not}
 use mathlib.Core.List.{List}
 use mathlib.Core.Option.{Option, none, some, Option·some-injective}
 use borrow.Author.Tests.{eq-eqb, ne-eqb, lt-ltb, le-ltb}
 use lib.ListN.{length, getD, set, length-set}
-use lib.Seq.{getD-set-same, getD-set-other, getD-take}
+use lib.Seq.{getD-set-same, getD-set-other}
 use Rattle.gray_theory.specs.Words.{even}
 use Rattle.gray_theory.specs.Sizes.{radix-two}
+use Rattle.gray_theory.specs.Unlocked.{unlocked-two, unlocked-most}
 use Rattle.gray_theory.specs.DigitRanges.{digits-move-in-range}
 use Rattle.gray_theory.specs.Engines.{Event, Handed, refusedWith}
-use Rattle.towers_theory.specs.States.{Towers, allOdd, common, survey, inRange}
-use Rattle.towers_theory.specs.Choices.{pegOf, smallest, onPair, sweeping, isTop, elsewhere, chosenOnPair, chosenOnRing, chosen}
+use Rattle.towers_theory.specs.States.{Towers, allOdd, common, survey, disks, inRange}
+use Rattle.towers_theory.specs.Choices.{digitOf, pegOf, smallest, onPair, sweeping, isTop, elsewhere, chosenOnPair, chosenOnRing, chosen}
 use Rattle.towers_theory.specs.Calls.{fresh, closedTowers, turnBy, clockwise, anticlockwise, pegAfter, pegsAfter, moveOf, moveBy, stepOf}
 use Rattle.towers_theory.specs.Smallest.{smallest-says}
 use Rattle.towers_theory.specs.Openings.{Openable}
-use Rattle.towers_theory.specs.InRange.{Arrays, RangeSays, range-says, says-range, survey-openable, survey-long}
+use Rattle.towers_theory.specs.InRange.{Arrays, RangeSays, range-says, says-range, ranged-moving, some-disk, disk-digit, survey-openable, survey-long}
 
 -- ---- what a move leaves in range
 turn-kept : (odd : Bool) (m turn : ℕ)
-    → 2 ≤ m
+    → (odd ≡ false → 2 ≤ m)
     → turn < cond odd 2 m
     → turnBy odd m turn < cond odd 2 m
-turn-kept true m turn two h = omega arith
-turn-kept false m turn two h =
+turn-kept true m turn least h = omega arith
+turn-kept false m turn least h =
+    let two = least refl in
     elim (decLt turn (m - 1)) [
       | yes p ↦ rw (lt-ltb turn (m - 1) p) (omega arith)
       | no q ↦ rw (le-ltb turn (m - 1) (omega arith)) (omega arith)
@@ -65,52 +67,61 @@ module _ (s : Towers) (a : Arrays s) (ranged : inRange s ≡ true) where
   long : length (survey s) ≡ s .n
   long = survey-long s says (a .radices)
 
-  -- the disk chosen is one of the n
+  many : s .moving .count ≡ length (disks s)
+  many = ranged-moving s says .count
+
+  -- the disk chosen is one of them
   on-ring : (b : Bool) (i : ℕ)
-      → cond b (some 0) (smallest (s .n) (λ k. isTop s k && elsewhere s k)) ≡ some i
-      → i < s .n
-  on-ring true i e = let z : 0 ≡ i = Option·some-injective 0 i e in let o = open-survey .survey .some in let l = long in omega arith
-  on-ring false i e = smallest-says (s .n) (λ k. isTop s k && elsewhere s k) i e .within
+      → allOdd (disks s) ≡ false
+      → cond b (some 0) (smallest (s .moving .count) (λ k. isTop s k && elsewhere s k)) ≡ some i
+      → i < s .moving .count
+  on-ring true i odd e =
+      let z : 0 ≡ i = Option·some-injective 0 i e in let o = some-disk (disks s) odd in let l = many in omega arith
+  on-ring false i odd e = smallest-says (s .moving .count) (λ k. isTop s k && elsewhere s k) i e .within
 
-  pub chosen-within : (i : ℕ) → chosen s ≡ some i → i < s .n
+  pub chosen-within : (i : ℕ) → chosen s ≡ some i → i < s .moving .count
   unfolding chosen
-  chosen-within i e = go (allOdd (survey s)) e
+  chosen-within i e = go (allOdd (disks s)) refl e
     where
-      go : (b : Bool) → cond b (chosenOnPair s) (chosenOnRing s) ≡ some i → i < s .n
-      go true f = smallest-says (s .n) (λ k. onPair (s .turn) (pegOf s k)) i f .within
-      go false f = on-ring (sweeping (common (survey s)) (s .turn)) i f
+      go : (b : Bool) → allOdd (disks s) ≡ b → cond b (chosenOnPair s) (chosenOnRing s) ≡ some i → i < s .moving .count
+      go true odd f = smallest-says (s .moving .count) (λ k. onPair (s .turn) (pegOf s k)) i f .within
+      go false odd f = on-ring (sweeping (common (disks s)) (s .turn)) i odd f
 
-  common-two : 2 ≤ common (survey s)
-  common-two = radix-two (survey s) 0 (open-survey .survey .two) (open-survey .survey .some)
+  common-two : allOdd (disks s) ≡ false → 2 ≤ common (disks s)
+  common-two odd = radix-two (disks s) 0 (unlocked-two (survey s)) (some-disk (disks s) odd)
 
   pegs-kept : (i : ℕ)
-      → i < s .n
-      → allOdd (survey s) ≡ false
+      → i < s .moving .count
+      → allOdd (disks s) ≡ false
       → (k : ℕ)
-      → k < length (survey s)
-      → getD (pegsAfter s i) k 0 ≤ common (survey s)
+      → k < length (disks s)
+      → getD (pegsAfter s i) k 0 ≤ common (disks s)
   pegs-kept i in-game e k h =
-      let l = long in
+      let l = many in
+      let n = long in
+      let few = unlocked-most (survey s) in
       let most = says .most in
-      let m = common (survey s) in
+      let m = common (disks s) in
       let p = getD (s .pegs) i 0 in
       rw e
       (set-kept (s .pegs) i (pegAfter m i p) m k (omega arith) (peg-kept m i p (says .within e i (omega arith))) (says .within e k h))
 
-  move-kept : (i : ℕ) → i < s .n → inRange (moveOf s i .state) ≡ true
+  move-kept : (i : ℕ) → i < s .moving .count → inRange (moveOf s i .state) ≡ true
   unfolding moveOf
   move-kept i h =
-      let l = long in
       let most = says .most in
-      let two = radix-two (survey s) i (open-survey .survey .two) (omega arith) in
-      let same = getD-take (s .n) (s .radices) i 0 h in
+      let d = disk-digit s (a .radices) (says .most) open-survey (ranged-moving s says) i h in
+      let number = d .number in
+      let index : digitOf s i - 1 ≡ d .index = omega arith in
       says-range (moveOf s i .state)
       (record {
         most = says .most;
         opens = says .opens;
         notches =
-            digits-move-in-range (s .n) (s .radices) (s .word) (s .downs) i h (omega arith) (omega arith) (omega arith) (says .notches);
-        turns = turn-kept (allOdd (survey s)) (common (survey s)) (s .turn) common-two (says .turns);
+            rw index
+            (digits-move-in-range (s .n) (s .radices) (s .word) (s .downs) (d .index) (d .within) (omega arith) (omega arith) (d .two) (says .notches));
+        moving = says .moving;
+        turns = turn-kept (allOdd (disks s)) (common (disks s)) (s .turn) common-two (says .turns);
         within = pegs-kept i h;
       })
 
@@ -125,11 +136,11 @@ module _ (s : Towers) (a : Arrays s) (ranged : inRange s ≡ true) where
 
   -- and its arrays keep their lengths
   length-pegs : (i : ℕ) → length (pegsAfter s i) ≡ 48
-  length-pegs i = go (allOdd (survey s))
+  length-pegs i = go (allOdd (disks s))
     where
-      go : (b : Bool) → length (cond b (s .pegs) (set (s .pegs) i (pegAfter (common (survey s)) i (getD (s .pegs) i 0)))) ≡ 48
+      go : (b : Bool) → length (cond b (s .pegs) (set (s .pegs) i (pegAfter (common (disks s)) i (getD (s .pegs) i 0)))) ≡ 48
       go true = a .pegs
-      go false = length-set (s .pegs) i (pegAfter (common (survey s)) i (getD (s .pegs) i 0)) ∙ a .pegs
+      go false = length-set (s .pegs) i (pegAfter (common (disks s)) i (getD (s .pegs) i 0)) ∙ a .pegs
 
   pub arrays-kept : Arrays (stepOf s .state)
   unfolding stepOf moveOf
@@ -138,20 +149,21 @@ module _ (s : Towers) (a : Arrays s) (ranged : inRange s ≡ true) where
       go : (c : Option ℕ) → Arrays (moveBy s c .state)
       go none = a
       go (some i) =
-          record { radices = a .radices; word = simp length-set (a .word); downs = simp length-set (a .downs); pegs = length-pegs i }
+          record { radices = a .radices; moving = a .moving; word = simp length-set (a .word); downs = simp length-set (a .downs); pegs = length-pegs i }
 
 -- for odd radices a call on other pegs does the same, and hands them back as they came
 abbrev pub withPegs : List ℕ → Towers → Towers
 withPegs pegs s = record {
   radices = s .radices;
   n = s .n;
+  moving = s .moving;
   word = s .word;
   turn = s .turn;
   downs = s .downs;
   pegs = pegs;
 }
 
-module _ (s : Towers) (pegs : List ℕ) (e : allOdd (survey s) ≡ true) where
+module _ (s : Towers) (pegs : List ℕ) (e : allOdd (disks s) ≡ true) where
   range-same : inRange (withPegs pegs s) ≡ inRange s
   unfolding inRange
   range-same = rw e

@@ -5,6 +5,7 @@ use mathlib.Core.Logic.{_↔_}
 use mathlib.Core.Bool.{true, _||_}
 use mathlib.Core.List.{List}
 use borrow.Author.Tests.{not-false}
+use Rattle.gray_theory.specs.Locks.{unlocked}
 use Rattle.gray_theory.specs.Answers.{Answer, given, refused, refusing, isGiven}
 use Rattle.gray_theory.specs.Bools.{impossible}
 use Rattle.gray_theory.specs.Radices.{digits}
@@ -15,7 +16,7 @@ use Rattle.towers_theory.specs.Calls.{fresh, openWith, openOf}
 -- document 01, "Limits", and refusal 6
 pub record Openable (ms : List ℕ) : Type 0 where
   pub survey : Limits ms
-  pub counts : (allOdd ms || allEvenAndEqual ms) ≡ true
+  pub counts : (allOdd (unlocked ms) || allEvenAndEqual (unlocked ms)) ≡ true
 
 -- ---- the checks
 pub openable : (ms : List ℕ) → isGiven (openCheck ms) ≡ true → Openable ms
@@ -27,7 +28,7 @@ openable ms e = by (openCheck ms) refl e
         let (limits, value) = within-limits ms (refusing 6 (wrongCounts ms) (given tt)) u f in
         record {
           survey = limits;
-          counts = not-false (allOdd ms || allEvenAndEqual ms) (passed 6 (wrongCounts ms) (given tt) u value .0);
+          counts = not-false (allOdd (unlocked ms) || allEvenAndEqual (unlocked ms)) (passed 6 (wrongCounts ms) (given tt) u value .0);
         }
 
 pub opens : {ms : List ℕ} → Openable ms → openCheck ms ≡ given tt

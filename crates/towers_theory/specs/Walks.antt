@@ -5,24 +5,26 @@ use native.Mathlib.Decide.{decLt}
 use native.Mathlib.Omega.{arith}
 use mathlib.Core.Path.{_≡_, sym, ap, subst, _∙_}
 use mathlib.Core.Bool.{Bool, true}
-use mathlib.Core.List.{List}
-use lib.ListN.{length}
+use mathlib.Core.List.{List, []}
+use lib.ListN.{length, getD}
 use Rattle.gray_theory.specs.Answers.{Answer, given, refused}
 use Rattle.gray_theory.specs.Radices.{digits, size}
 use Rattle.gray_theory.specs.Members.{member-is-wordAt}
 use Rattle.gray_theory.specs.Changes.{change}
 use Rattle.gray_theory.specs.Rulers.{change-is-ruler}
-use Rattle.gray_theory.specs.Sizes.{size-pos, allFrom-weaker}
-use Rattle.gray_theory.specs.Turns.{Advances, walk-advances}
+use Rattle.gray_theory.specs.Sizes.{size-pos}
+use Rattle.gray_theory.specs.Locks.{unlocked, moving}
+use Rattle.gray_theory.specs.Unlocked.{size-unlocked, length-moving, moving-pos, moving-once}
+use Rattle.gray_theory.specs.Turns.{Advances}
 use Rattle.gray_theory.specs.Engines.{Event, moved, ended, after, Names}
 use Rattle.towers_theory.specs.States.{Towers, setting, inRange}
 use Rattle.towers_theory.specs.Choices.{pegOf}
 use Rattle.towers_theory.specs.Calls.{fresh, openOf, stepOf}
 use Rattle.towers_theory.specs.Openings.{Openable, opens-exactly, opens-fresh}
 use Rattle.towers_theory.specs.Game.{state, answer, Ends, Allowed, WalksTheList}
-use Rattle.towers_theory.specs.Canonical.{towersAt, pegAt, setting-at, peg-at, fresh-is, towers-in-range}
+use Rattle.towers_theory.specs.Canonical.{playable, towersAt, pegAt, setting-at, peg-at, fresh-is, towers-in-range}
 use Rattle.towers_theory.specs.Choosing.{stacked}
-use Rattle.towers_theory.specs.Moving.{rests, move-call, end-call}
+use Rattle.towers_theory.specs.Moving.{rests, disk-moves, move-call, end-call}
 
 -- the digit that an answer names, 0 where it names none
 abbrev digitOf : Answer Event → ℕ
@@ -35,7 +37,7 @@ module _ (ms : List ℕ) (o : Openable ms) where
   start = fresh ms
 
   some-word : 0 < size ms
-  some-word = size-pos ms (allFrom-weaker 2 1 ms (omega arith) (o .survey .two))
+  some-word = size-pos ms (o .survey .one)
 
   -- the state after t calls, t below N, is that of rank t
   run-to : (t : ℕ) → t < size ms → state start t ≡ towersAt ms t
@@ -95,12 +97,15 @@ module _ (ms : List ℕ) (o : Openable ms) where
       }
 
   -- the rules: smaller disks are all aside, where the disk that moves neither is nor goes
-  pegs-of : (t k : ℕ) → t < size ms → k < length ms → pegOf (state start t) k ≡ pegAt ms t k
-  pegs-of t k h l = ap (λ (s : Towers). pegOf s k) (run-to t h) ∙ peg-at ms t k l
+  abbrev ws : List ℕ
+  ws = unlocked ms
 
-  keeps-rules : (t i : ℕ) → suc t < size ms → Advances ms t i → Allowed start (suc t) i
+  pegs-of : (t k : ℕ) → t < size ms → k < length ws → pegOf (state start t) k ≡ pegAt ws t k
+  pegs-of t k h l = ap (λ (s : Towers). pegOf s k) (run-to t h) ∙ peg-at ms t (o .survey .one) k l
+
+  keeps-rules : (t i : ℕ) → suc t < size ms → Advances ws t i → Allowed start (suc t) i
   keeps-rules t i h a =
-      let s = stacked ms o t in
+      let s = stacked ws (playable o) t in
       let within = a .within in
       let named = a .digit in
       let z : suc t - 1 ≡ t = omega arith in
@@ -117,24 +122,32 @@ module _ (ms : List ℕ) (o : Openable ms) where
             (sym (pegs-of (suc t) i h within)
             ∙ sym e
             ∙ pegs-of (suc t) k h (omega arith)
-            ∙ rests ms o t i k a (λ q. omega arith)
+            ∙ rests ws (playable o) t i k a (λ q. omega arith)
             ∙ s .covered k (omega arith) (omega arith));
       }
 
   allowed : (j i : ℕ) (down : Bool)
       → 1 ≤ j
-      → answer start j ≡ given (moved (record { digit = suc i; down = down }))
+      → i < length (moving ms)
+      → answer start j ≡ given (moved (record { digit = getD (moving ms) i 0; down = down }))
       → Allowed start j i
-  allowed zero i down h e = absurd (omega arith)
-  allowed (suc t) i down h e =
+  allowed zero i down h l e = absurd (omega arith)
+  allowed (suc t) i down h l e =
       elim (decLt (suc t) (size ms)) [
         | yes p ↦
-            let (k, a) = walk-advances ms (o .survey .two) t p in
-            let named : suc k ≡ suc i =
-            sym (a .digit) ∙ sym (ap (λ c. c .digit) (change-is-ruler ms t p .0)) ∙ ap digitOf (sym (answers-change t p) ∙ e) in
-            let same : k ≡ i = omega arith in
-            subst (Allowed start (suc t)) same (keeps-rules t k p a)
-        | no q ↦ let none : 0 ≡ suc i = ap digitOf (sym (ends (suc t) (omega arith) .answers) ∙ e) in absurd (omega arith)
+            let (d, k, a) = disk-moves ms (o .survey .one) t p in
+            let named : getD (moving ms) d 0 ≡ getD (moving ms) i 0 =
+            a .number
+            ∙ sym (a .digit .digit)
+            ∙ sym (ap (λ c. c .digit) (change-is-ruler ms t p .0))
+            ∙ ap digitOf (sym (answers-change t p) ∙ e) in
+            let within = a .disk .within in
+            let many = length-moving ms in
+            subst (Allowed start (suc t)) (moving-once ms d i (omega arith) l named) (keeps-rules t d p (a .disk))
+        | no q ↦
+            let none : 0 ≡ getD (moving ms) i 0 = ap digitOf (sym (ends (suc t) (omega arith) .answers) ∙ e) in
+            let pos = moving-pos ms i l in
+            absurd (omega arith)
       ]
 
   run-walks : WalksTheList ms start
@@ -155,3 +168,14 @@ pub disks-walk-the-list : (s : Towers) (radices : List ℕ)
     → WalksTheList (digits radices) (openOf s radices .state)
 disks-walk-the-list s radices e =
     subst (WalksTheList (digits radices)) (sym (opens-fresh s radices e)) (run-walks (digits radices) (opens-exactly s radices .0 e))
+
+-- With all digits locked there is no disk, and the first call is the end.
+pub no-disk-ends-at-once : (s : Towers) (radices : List ℕ)
+    → openOf s radices .answer ≡ given tt
+    → unlocked (digits radices) ≡ []
+    → Ends (openOf s radices .state) 1
+unfolding size
+no-disk-ends-at-once s radices e none =
+    let ms = digits radices in
+    let single : size ms ≡ 1 = sym (size-unlocked ms (opens-exactly s radices .0 e .survey .one)) ∙ ap size none in
+    disks-walk-the-list s radices e .end 1 (omega arith)

@@ -96,13 +96,21 @@ fn add_moves(fresh: Walk, total: u64, page: &mut [u8], used: usize) -> usize
     at
 }
 
-// The lines behind the first one, with half of n places rounded up, so that the queue is never empty.
+// Half of the digits that move, rounded up, and 1 where none does.
+fn places(moving: u8) -> usize {
+    if moving == 0 {
+        return 1;
+    }
+    (moving as usize + 1) / 2
+}
+
+// The lines behind the first one, with so many places that the queue is never empty.
 fn add_walk(radices: &[u8], total: u64, page: &mut [u8], used: usize) -> usize
     requires { ⌜ used ≤ length (now page) ⌝ }
     ensures { λ r. ⌜ Counts r (now (page .exit)) ⌝ }
 {
-    let n = radices.len();
-    let opened = Walk::closed().open(radices, (n + 1) / 2);
+    let moving = digit::moving(radices);
+    let opened = Walk::closed().open(radices, places(moving.count));
     let answer = opened.answer;
     let walk = opened.walk;
     let word = walk.word;

@@ -20,22 +20,22 @@ add-if1 c = search needs
 returns : tie.Need-returns
 returns c =
     let read = c .before .before in
-    run-out-idle _ _ _ _ _ _ (read .before .before .before .before .pre) _ (read .wide .ensures .0) (c .if1 .taken)
+    run-out-idle _ _ _ _ _ _ _ _ (read .before .before .before .before .before .pre) _ (read .wide .ensures .0) (c .if1 .taken)
 
 radix-at-requires : tie.Need-radix-at-requires
 radix-at-requires c κs = search needs
 
 sub-if2 : tie.Need-sub-if2
-sub-if2 c = radix-pos _ _ _ _ _ _ (c .before .before .before .before .before .before .before .pre) _ (c .radix-at .ensures)
+sub-if2 c = radix-pos _ _ _ _ _ _ _ _ (c .before .before .before .before .before .before .before .before .pre) _ (c .radix-at .ensures)
 
 slice-write-counter : tie.Need-slice-write-counter
 slice-write-counter c = search needs
 
-add-t19 : tie.Need-add-t19
-add-t19 c = search needs
+add-t21 : tie.Need-add-t21
+add-t21 c = search needs
 
-add-t20 : tie.Need-add-t20
-add-t20 c = search needs
+add-t22 : tie.Need-add-t22
+add-t22 c = search needs
 
 same-length : tie.Need-same-length
 same-length c = search needs
@@ -44,7 +44,7 @@ returns-2 : tie.Need-returns-2
 returns-2 c =
     let there = c .before .before in
     let read = there .before .before .before in
-    carried _ _ _ _ _ _ (read .before .before .before .before .pre) _ (read .wide .ensures .0) _ (there .before .if1 .left)
+    carried _ _ _ _ _ _ _ _ (read .before .before .before .before .before .pre) _ (read .wide .ensures .0) _ (there .before .if1 .left)
     (there .radix-at .ensures)
     (c .before .if2 .taken)
 
@@ -52,9 +52,9 @@ add-counter : tie.Need-add-counter
 add-counter c =
     let there = c .before .before in
     let read = there .before .before .before in
-    let ok = read .before .before .before .before .pre in
+    let ok = read .before .before .before .before .before .pre in
     let on = there .before .if1 .left in
-    let room = count-room _ _ _ _ _ _ ok _ (read .wide .ensures .0) _ on (there .radix-at .ensures) (c .before .if2 .left) in
+    let room = count-room _ _ _ _ _ _ _ _ ok _ (read .wide .ensures .0) _ on (there .radix-at .ensures) (c .before .if2 .left) in
     omega arith
 
 slice-write-counter-2 : tie.Need-slice-write-counter-2
@@ -66,11 +66,11 @@ wide-requires-2 c κs = search needs
 slice-write-queue : tie.Need-slice-write-queue
 slice-write-queue c = search needs
 
-add-t21 : tie.Need-add-t21
-add-t21 c = search needs
+add-t23 : tie.Need-add-t23
+add-t23 c = search needs
 
-add-t25 : tie.Need-add-t25
-add-t25 c = search needs
+add-t27 : tie.Need-add-t27
+add-t27 c = search needs
 
 same-length-2 : tie.Need-same-length-2
 same-length-2 c = search needs
@@ -82,7 +82,7 @@ returns-3 : tie.Need-returns-3
 returns-3 c =
     let there = c .before .before .before .before in
     let read = there .before .before .before in
-    appended _ _ _ _ _ _ (read .before .before .before .before .pre) _ (read .wide .ensures .0) _ (there .before .if1 .left)
+    appended _ _ _ _ _ _ _ _ (read .before .before .before .before .before .pre) _ (read .wide .ensures .0) _ (there .before .if1 .left)
     (there .radix-at .ensures)
     (c .before .before .before .if2 .left)
     _
@@ -93,7 +93,7 @@ returns-4 : tie.Need-returns-4
 returns-4 c =
     let there = c .before .before in
     let read = there .before .before .before in
-    full-idle _ _ _ _ _ _ (read .before .before .before .before .pre) _ (read .wide .ensures .0) _ (there .before .if1 .left)
+    full-idle _ _ _ _ _ _ _ _ (read .before .before .before .before .before .pre) _ (read .wide .ensures .0) _ (there .before .if1 .left)
     (there .radix-at .ensures)
     (c .before .if2 .left)
     (c .if3 .left)
@@ -110,16 +110,16 @@ work-spec =
     radix-at-requires
     sub-if2
     slice-write-counter
-    add-t19
-    add-t20
+    add-t21
+    add-t22
     same-length
     returns-2
     add-counter
     slice-write-counter-2
     wide-requires-2
     slice-write-queue
-    add-t21
-    add-t25
+    add-t23
+    add-t27
     same-length-2
     same-length-3
     returns-3

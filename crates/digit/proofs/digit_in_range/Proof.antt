@@ -5,7 +5,7 @@ use mathlib.Core.Bool.{_&&_, not, and-assoc}
 use mathlib.Core.Logic.{⊎-elim}
 use native.Mathlib.Omega.{arith}
 use borrow.Author.Needs.{needs}
-use lib.Dec.{eqb, ltb}
+use lib.Dec.{eqb, ltb, leb}
 use Rattle.digit.proofs.digit_in_range.Statement.{statement}
 use Rattle.digit.proofs.digit_in_range.Tie as tie
 
@@ -18,8 +18,9 @@ returns c =
     let a = c .before .args .a in
     let down = c .before .args .down in
     let top : c .if1 .top ≡ m - 1 = ⊎-elim (λ w. omega arith) (λ w. omega arith) (c .if1 .came) in
-    ap (λ t. ltb a m && (not (eqb a 0 && down) && not (eqb a t && not down))) top
-    ∙ sym (and-assoc (ltb a m) (not (eqb a 0 && down)) (not (eqb a (m - 1) && not down)))
+    ap (λ t. ltb a m && (not (eqb a 0 && down) && not (leb 2 m && (eqb a t && not down)))) top
+    ∙ ap (λ t. ltb a m && (not (eqb a 0 && down) && not t)) (sym (and-assoc (leb 2 m) (eqb a (m - 1)) (not down)))
+    ∙ sym (and-assoc (ltb a m) (not (eqb a 0 && down)) (not (leb 2 m && eqb a (m - 1) && not down)))
 
 pub digit-in-range-spec : {M : Type 1} → statement M
 digit-in-range-spec = tie.close (tie.spec sub-top returns)

@@ -50,7 +50,7 @@ positive : (c : tie.After-wide Inv-loop μ-loop) → 0 < c .wide .result
 positive c =
     let turn = c .before .before in
     let start = turn .before .before .before .before in
-    let least = radix-from 2 (start .args .radices .now) (turn .before .loop .i - 1) (omega arith) (start .pre .two) in
+    let least = radix-from 1 (start .args .radices .now) (turn .before .loop .i - 1) (omega arith) (start .pre .least) in
     let m = c .wide .ensures .0 in
     omega arith
 

@@ -24,7 +24,7 @@ rankable c =
     let sized = accepted _ _ (size-is (c .before .before)) in
     record {
       one = fine-says _ (sym (c .before .before .check-word .ensures) ∙ c .enum-told3 .given .1);
-      two = sized .two;
+      least = sized .one;
       limit = sized .limit;
     }
 

@@ -61,7 +61,7 @@ ranked c =
     (c .before .wide2 .ensures .0)
     (turn .before .loop .inv .1)
     (c .reflect .ensures) in
-    let small = rank-small l w (start .pre .one) (turn .before .loop .i + 1) (start .pre .two) (start .pre .limit) in
+    let small = rank-small l w (start .pre .one) (turn .before .loop .i + 1) (start .pre .least) (start .pre .limit) in
     (same, rw same small)
 
 mul-p : tie.Need-mul-p Inv-loop μ-loop

@@ -9,14 +9,14 @@ use Rattle.gray.proofs.size.Tie as tie
 returns : tie.Need-returns
 returns c = count-refused _ (c .if1 .taken)
 
-all-two-requires : tie.Need-all-two-requires
-all-two-requires c κs = search needs
+none-zero-requires : tie.Need-none-zero-requires
+none-zero-requires c κs = search needs
 
 returns-2 : tie.Need-returns-2
-returns-2 c = radix-refused _ (c .before .before .if1 .left) (sym (c .before .all-two .ensures) ∙ not-true _ (c .if2 .taken))
+returns-2 c = radix-refused _ (c .before .before .if1 .left) (sym (c .before .none-zero .ensures) ∙ not-true _ (c .if2 .taken))
 
 product-of-requires : tie.Need-product-of-requires
-product-of-requires c κs = sym (c .before .all-two .ensures) ∙ not-false _ (c .if2 .left)
+product-of-requires c κs = sym (c .before .none-zero .ensures) ∙ not-false _ (c .if2 .left)
 
 enum-known-whole : tie.Need-enum-known-whole
 enum-known-whole c = search needs
@@ -29,7 +29,7 @@ returns-3 c =
     let made = c .before .before in
     size-refused _
     (made .before .before .before .if1 .left)
-    (sym (made .before .before .all-two .ensures) ∙ not-false _ (made .before .if2 .left))
+    (sym (made .before .before .none-zero .ensures) ∙ not-false _ (made .before .if2 .left))
     (sym (made .product-of .ensures) ∙ c .enum-told .given .1)
 
 returns-4 : tie.Need-returns-4
@@ -37,7 +37,7 @@ returns-4 c =
     let made = c .before .before .before in
     size-given _ _
     (made .before .before .before .if1 .left)
-    (sym (made .before .before .all-two .ensures) ∙ not-false _ (made .before .if2 .left))
+    (sym (made .before .before .none-zero .ensures) ∙ not-false _ (made .before .if2 .left))
     (sym (made .product-of .ensures) ∙ c .before .whole .given .1)
 
 pub size-spec : {M : Type 1} → statement M
@@ -45,7 +45,7 @@ size-spec =
     tie.close
     (tie.spec
     returns
-    all-two-requires
+    none-zero-requires
     returns-2
     product-of-requires
     enum-known-whole

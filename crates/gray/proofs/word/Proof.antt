@@ -54,7 +54,7 @@ returns-3 c =
 put-word-requires : tie.Need-put-word-requires
 put-word-requires c κs =
     let sized = c .before .before .before in
-    record { two = accepted _ _ (size-is sized) .two; room = c .before .if2 .left }
+    record { least = accepted _ _ (size-is sized) .one; room = c .before .if2 .left }
 
 same-length : tie.Need-same-length
 same-length c = search needs

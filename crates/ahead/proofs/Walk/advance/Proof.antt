@@ -28,14 +28,14 @@ array-write-word c = search needs
 array-write-downs : tie.Need-array-write-downs
 array-write-downs c = search needs
 
-add-t28 : tie.Need-add-t28
-add-t28 c = search needs
+add-t29 : tie.Need-add-t29
+add-t29 c = search needs
 
 returns : tie.Need-returns
 returns c =
     let moved = c .before in
     let there = moved .before in
-    digit-moved _ _ (there .before .before .before .before .pre) _ (there .wide .ensures .0) _ _ (moved .advanced .ensures)
+    digit-moved _ _ (there .before .before .before .before .before .pre) _ (there .wide .ensures .0) _ _ (moved .advanced .ensures)
 
 pub advance-spec : {M : Type 1} → statement M
 advance-spec =
@@ -49,5 +49,5 @@ advance-spec =
     advanced-requires
     array-write-word
     array-write-downs
-    add-t28
+    add-t29
     returns)

@@ -1,35 +1,43 @@
 -- `ahead::Walk::in_range` meets its contract: each stage's test is a part of the range rule. Assumes nothing.
-use Prim.Native.Nat.{_≤_}
+use Prim.Native.Nat.{_+_, _≤_}
 use mathlib.Core.Path.{_≡_, sym, ap, _∙_}
-use mathlib.Core.Bool.{true, false}
+use mathlib.Core.Bool.{true, false, _&&_}
 use native.Mathlib.Omega.{arith}
 use borrow.Author.Needs.{needs}
-use lib.ListN.{length, take}
+use borrow.Author.Tests.{not-true, not-false}
+use lib.Dec.{leb}
+use lib.ListN.{length, take, getD}
 use lib.Seq.{length-take-le}
 use Rattle.gray_theory.specs.Answers.{given}
 use Rattle.gray_theory.specs.Calls.{sizeCall}
+use Rattle.gray_theory.specs.Directions.{allBelow}
 use Rattle.gray.specs.Enums.{countedAs}
-use Rattle.gray_theory.specs.Directions.{digitsInRange}
-use Rattle.gray_theory.specs.DigitRanges.{digits-tested}
-use Rattle.gray_theory.specs.Refusals.{survey-refused, survey-size}
-use Rattle.ahead_theory.specs.States.{survey}
+use Rattle.gray_theory.specs.Refusals.{survey-refused, survey-one, survey-size}
 use Rattle.gray_theory.specs.Capacities.{right-capacity}
+use Rattle.ahead_theory.specs.States.{survey}
 use Rattle.ahead_theory.specs.InRange.{Arrays}
 use Rattle.ahead.specs.Structs.{walkAs}
-use Rattle.ahead.specs.Stages.{Radices}
-use Rattle.ahead.proofs.Ranges.{accepted-radices, digits-over, capacity-tested, not-open, state-tested}
+use Rattle.ahead.specs.Stages.{Known}
+use Rattle.ahead.proofs.Ranges.{moving-most, digits-over, capacity-tested, not-open, moving-fail, queue-over, state-tested}
 use Rattle.ahead.proofs.Walk.in_range.Statement.{statement}
 use Rattle.ahead.proofs.Walk.in_range.Tie as tie
 
--- places on the way: n as a length, from where the radices are accepted, and where the capacity is, from where the arrays are lent
+-- places on the way: n as a length, from where the radices are accepted; where the capacity is accepted and where the queue fits, from
+-- where the digits that move are; and that, from where the arrays are lent
 abbrev counted : tie.After-known-told → tie.After-wide
 counted c = c .before .before .before .before .before .before
 
 abbrev start : tie.After-known-told → tie.Start
 start c = counted c .before .before
 
-abbrev passed : tie.After-queue → tie.Else2
-passed c = c .before .before .before .before .before
+abbrev holding : tie.Else4 → tie.Else3
+holding c = c .before .before .before
+
+abbrev passed : tie.Else4 → tie.Else2
+passed c = holding c .before .before
+
+abbrev fit : tie.After-wide2 → tie.Else4
+fit c = c .before .before .before .before .before .before
 
 lengths : (c : tie.Start) → Arrays (walkAs (c .args .self))
 lengths c = search needs
@@ -44,8 +52,18 @@ size-says c =
 size-is : (c : tie.After-known-told) → sizeCall (survey (walkAs (start c .args .self))) ≡ given (c .before .counted .given .0 .0)
 size-is c = size-says (c .before .before .before) ∙ ap countedAs (c .before .counted .given .1)
 
-radices-fit : (c : tie.After-known-told) → Radices (start c .args .self .radices) (start c .args .self .n)
-radices-fit c = accepted-radices _ _ _ (lengths (start c) .radices) (counted c .before .if1 .left) (size-is c)
+-- what is known once the digits that move are tested
+known : (c : tie.Else4) → Known (walkAs (start (passed c .before) .args .self))
+known c =
+    let told = passed c .before in
+    record {
+      most = counted told .before .if1 .left;
+      one = survey-one _ _ (size-is told);
+      moving = sym (c .before .moving-in-range .ensures) ∙ not-false _ (c .if4 .left);
+    }
+
+few : (c : tie.Else4) → start (passed c .before) .args .self .moving .count ≤ 48
+few c = moving-most (walkAs (start (passed c .before) .args .self)) (lengths (start (passed c .before))) (known c)
 
 returns : tie.Need-returns
 returns c = digits-over (walkAs (c .before .args .self)) (c .if1 .taken)
@@ -53,19 +71,8 @@ returns c = digits-over (walkAs (c .before .args .self)) (c .if1 .taken)
 wide-requires : tie.Need-wide-requires
 wide-requires c κs = search needs
 
--- n digits fit the arrays of digits
-module _ (c : tie.After-wide) where
-  radices-hold : c .wide .result ≤ length (c .before .before .args .self .radices)
-  radices-hold = omega (arith, lengths (c .before .before))
-
-  word-holds : c .wide .result ≤ length (c .before .before .args .self .word)
-  word-holds = omega (arith, lengths (c .before .before))
-
-  downs-hold : c .wide .result ≤ length (c .before .before .args .self .downs)
-  downs-hold = omega (arith, lengths (c .before .before))
-
 array-share-prefix-radices : tie.Need-array-share-prefix-radices
-array-share-prefix-radices c = radices-hold (c .before)
+array-share-prefix-radices c = omega (arith, lengths (c .before .before .before))
 
 slice-aggregate-size : tie.Need-slice-aggregate-size
 slice-aggregate-size c = sym (length-take-le _ _ (array-share-prefix-radices (c .before)))
@@ -90,65 +97,60 @@ returns-3 c =
     let w = walkAs (start (c .before) .args .self) in
     not-open w (capacity-tested (survey w) (w .capacity) _ (size-is (c .before)) true (c .if2 .taken))
 
-array-share-prefix-radices-2 : tie.Need-array-share-prefix-radices-2
-array-share-prefix-radices-2 c = radices-hold (counted (passed c .before))
+returns-4 : tie.Need-returns-4
+returns-4 c = queue-over (walkAs (start (c .before .before .before) .args .self)) (c .if3 .taken)
 
-slice-aggregate-digits-in-range : tie.Need-slice-aggregate-digits-in-range
-slice-aggregate-digits-in-range c = sym (length-take-le _ _ (array-share-prefix-radices-2 (c .before)))
+moving-in-range-requires : tie.Need-moving-in-range-requires
+moving-in-range-requires c κs = search needs
 
-array-share-prefix-word : tie.Need-array-share-prefix-word
-array-share-prefix-word c = word-holds (counted (passed (c .before) .before))
-
-slice-aggregate-digits-in-range-2 : tie.Need-slice-aggregate-digits-in-range-2
-slice-aggregate-digits-in-range-2 c = sym (length-take-le _ _ (array-share-prefix-word (c .before)))
-
-array-share-prefix-downs : tie.Need-array-share-prefix-downs
-array-share-prefix-downs c = downs-hold (counted (passed (c .before .before) .before))
-
-slice-aggregate-digits-in-range-3 : tie.Need-slice-aggregate-digits-in-range-3
-slice-aggregate-digits-in-range-3 c = sym (length-take-le _ _ (array-share-prefix-downs (c .before)))
+returns-5 : tie.Need-returns-5
+returns-5 c =
+    moving-fail (walkAs (start (c .before .before .before .before .before .before) .args .self)) (sym (c .before .moving-in-range .ensures) ∙ not-true _ (c .if4 .taken))
 
 digits-in-range-requires : tie.Need-digits-in-range-requires
 digits-in-range-requires c κs = search needs
 
-slice-aggregate-producer-in-range : tie.Need-slice-aggregate-producer-in-range
-slice-aggregate-producer-in-range c = search needs
+slice-aggregate-entries-in-range : tie.Need-slice-aggregate-entries-in-range
+slice-aggregate-entries-in-range c = search needs
 
-slice-aggregate-producer-in-range-2 : tie.Need-slice-aggregate-producer-in-range-2
-slice-aggregate-producer-in-range-2 c = search needs
+wide-requires-2 : tie.Need-wide-requires-2
+wide-requires-2 c κs = search needs
 
-slice-aggregate-producer-in-range-3 : tie.Need-slice-aggregate-producer-in-range-3
-slice-aggregate-producer-in-range-3 c = search needs
+entries-in-range-requires : tie.Need-entries-in-range-requires
+entries-in-range-requires c κs =
+    let at = fit c in
+    let begun = start (passed at .before) in
+    let long = lengths begun .queue in
+    let most = right-capacity (begun .args .self .capacity) (passed at .if2 .left) .1 in
+    let held = holding at .if3 .left in
+    let same = c .wide2 .ensures .0 in
+    (few at, omega arith)
 
--- the place where the arrays are lent, from a later one
-abbrev lent : tie.After-queue2 → tie.After-queue
-lent c = c .before .before .before .before .before .before .before
+counter-in-range-requires : tie.Need-counter-in-range-requires
+counter-in-range-requires c κs = known (fit (c .before))
 
-producer-in-range-requires : tie.Need-producer-in-range-requires
-producer-in-range-requires c κs =
-    let at = passed (lent c) in
-    let long = lengths (start (at .before)) in
-    (radices-fit (at .before), right-capacity _ (at .if2 .left) .1, long .counter, long .queue)
+is-place-requires : tie.Need-is-place-requires
+is-place-requires c κs = few (fit (c .before .before))
 
 within-requires : tie.Need-within-requires
-within-requires c κs = survey-size _ _ (size-is (passed (lent (c .before)) .before)) .1
+within-requires c κs = survey-size _ _ (size-is (passed (fit (c .before .before .before)) .before)) .1
 
-returns-4 : tie.Need-returns-4
-returns-4 c =
-    let queue = c .before .before in
-    let at = passed (lent queue) in
-    let told = at .before in
-    let wide = counted told in
+returns-6 : tie.Need-returns-6
+returns-6 c =
+    let placed = c .before in
+    let counters = placed .before in
+    let entered = counters .before in
+    let at = fit (entered .before) in
+    let told = passed at .before in
     let w = walkAs (start told .args .self) in
-    let tested =
-    queue .before .before .before .digits-in-range .ensures
-    ∙ digits-tested (wide .wide .result) (w .radices) (w .word) (w .downs) (radices-hold wide) (word-holds wide) (downs-hold wide)
-    ∙ ap (λ k. digitsInRange k (w .radices) (w .word) (w .downs)) (wide .wide .ensures .0) in
-    state-tested w _ _ _ _
-    (wide .before .if1 .left)
-    (capacity-tested (survey w) (w .capacity) _ (size-is told) false (at .if2 .left))
-    tested
-    (c .before .producer-in-range .ensures)
+    state-tested w _ _ _ _ _ _ (lengths (start told)) (known at)
+    (capacity-tested (survey w) (w .capacity) _ (size-is told) false (passed at .if2 .left))
+    (holding at .if3 .left)
+    (entered .before .before .before .digits-in-range .ensures)
+    (counters .counter-in-range .ensures)
+    (placed .is-place .ensures)
+    (entered .entries-in-range .ensures
+    ∙ ap (λ k. allBelow k (λ i. leb 1 (getD (w .producer .queue) i 0) && leb (getD (w .producer .queue) i 0) (w .moving .count + 1))) (entered .before .wide2 .ensures .0))
     (survey-size (survey w) _ (size-is told) .0)
     (c .within .ensures)
 
@@ -165,16 +167,14 @@ in-range-spec =
     enum-told
     returns-2
     returns-3
-    array-share-prefix-radices-2
-    slice-aggregate-digits-in-range
-    array-share-prefix-word
-    slice-aggregate-digits-in-range-2
-    array-share-prefix-downs
-    slice-aggregate-digits-in-range-3
+    returns-4
+    moving-in-range-requires
+    returns-5
     digits-in-range-requires
-    slice-aggregate-producer-in-range
-    slice-aggregate-producer-in-range-2
-    slice-aggregate-producer-in-range-3
-    producer-in-range-requires
+    slice-aggregate-entries-in-range
+    wide-requires-2
+    entries-in-range-requires
+    counter-in-range-requires
+    is-place-requires
     within-requires
-    returns-4)
+    returns-6)

@@ -2,6 +2,9 @@
 -- nothing.
 use mathlib.Core.Path.{_≡_, sym, ap, _∙_}
 use native.Mathlib.Omega.{arith}
+use lib.ListN.{length}
+use lib.Seq.{length-take-le}
+use Rattle.digit.specs.Moving.{movingAs}
 use Rattle.gray_theory.specs.Answers.{given}
 use Rattle.gray_theory.specs.Calls.{sizeCall}
 use Rattle.gray.specs.Enums.{countedAs}
@@ -47,15 +50,30 @@ returns-2 c =
 reversed-requires : tie.Need-reversed-requires
 reversed-requires c κs = search needs
 
+-- the digits stand in an array
+array-share-prefix-digits : tie.Need-array-share-prefix-digits
+array-share-prefix-digits c =
+    let told = c .before .before in
+    let most = accepted (told .before .before .before .before .args .radices .now) _ (size-is told) .most in
+    let room : length (c .reversed .result) ≡ 48 = search needs in
+    omega arith
+
+slice-aggregate-moving : tie.Need-slice-aggregate-moving
+slice-aggregate-moving c = sym (length-take-le _ _ (array-share-prefix-digits (c .before)))
+
+moving-requires : tie.Need-moving-requires
+moving-requires c κs = search needs
+
 cast-fresh : tie.Need-cast-fresh
 cast-fresh c =
-    let told = c .before .before in
+    let told = c .before .before .before .before in
     let most = accepted (told .before .before .before .before .args .radices .now) _ (size-is told) .most in
     omega arith
 
 cast-fresh-2 : tie.Need-cast-fresh-2
 cast-fresh-2 c =
-    let most = right-capacity (c .before .before .before .before .before .before .args .capacity) (c .before .if1 .left) .1 in
+    let passed = c .before .before .before in
+    let most = right-capacity (passed .before .before .before .before .before .args .capacity) (passed .if1 .left) .1 in
     omega arith
 
 fresh-requires : tie.Need-fresh-requires
@@ -63,13 +81,14 @@ fresh-requires c κs = search needs
 
 returns-3 : tie.Need-returns-3
 returns-3 c =
-    let made = c .before in
+    let made = c .before .before .before in
     let told = made .before .before in
     let a = told .before .before .before .before .args in
-    opening-given (walkAs (a .self)) (a .radices .now) (a .capacity) _ (walkAs (c .fresh .result)) _
+    opening-given (walkAs (a .self)) (a .radices .now) (a .capacity) _ (walkAs (c .fresh .result)) _ (movingAs (c .before .moving .result))
     (size-is told)
     (made .before .if1 .left)
     (made .reversed .ensures)
+    (c .before .moving .ensures)
     (c .fresh .ensures)
 
 pub open-spec : {M : Type 1} → statement M
@@ -83,6 +102,9 @@ open-spec =
     returns
     returns-2
     reversed-requires
+    array-share-prefix-digits
+    slice-aggregate-moving
+    moving-requires
     cast-fresh
     cast-fresh-2
     fresh-requires

@@ -5,14 +5,14 @@ use mathlib.Core.Path.{_≡_, sym, ap, _∙_}
 use mathlib.Core.Bool.{true}
 use borrow.Author.Needs.{needs}
 use borrow.Author.Tests.{not-true, not-false}
-use lib.ListN.{length}
-use Rattle.ahead_theory.specs.States.{Producer, Walk, survey, inRange}
+use Rattle.ahead_theory.specs.States.{Producer, Walk, movingRadices, inRange}
 use Rattle.ahead_theory.specs.Work.{work}
 use Rattle.ahead_theory.specs.Calls.{once, twice}
-use Rattle.ahead_theory.specs.InRange.{Ranged, range-says, Reached, reached-none}
+use Rattle.ahead_theory.specs.InRange.{Arrays, Ranged, range-says, Reached, reached-none}
 use Rattle.ahead.specs.Structs.{walkAs}
-use Rattle.ahead.specs.Stages.{assembled}
-use Rattle.ahead.proofs.Steps.{refused-faulty, already-over, reached-by, workable, movable, refused-dry, ends, moves-digit}
+use Rattle.ahead.specs.Stages.{assembled, movingOf}
+use Rattle.ahead.proofs.Ranges.{ranged-known, moving-count, moving-most, moving-numbered, moving-radices}
+use Rattle.ahead.proofs.Steps.{refused-faulty, already-over, reached-by, workable, entry-pos, movable, refused-dry, ends, moves-digit}
 use Rattle.ahead.proofs.Walk.step.Statement.{statement}
 use Rattle.ahead.proofs.Walk.step.Tie as tie
 
@@ -39,8 +39,11 @@ slice-aggregate-work-2 c = search needs
 slice-aggregate-work-3 : tie.Need-slice-aggregate-work-3
 slice-aggregate-work-3 c = search needs
 
+slice-aggregate-work-4 : tie.Need-slice-aggregate-work-4
+slice-aggregate-work-4 c = search needs
+
 abbrev going : tie.After-queue2 → tie.Else2
-going c = c .before .before .before .before .before .before .before
+going c = c .before .before .before .before .before .before .before .before .before .before
 
 abbrev walk : tie.After-queue2 → Walk
 walk c = walkAs (going c .before .before .before .args .self)
@@ -48,38 +51,49 @@ walk c = walkAs (going c .before .before .before .args .self)
 in-parts : (c : tie.After-queue2) → Ranged (walk c)
 in-parts c = range-says (walk c) (tested (going c .before))
 
-room : (c : tie.After-queue2) → length (walk c .radices) ≡ 48
-room c = search needs
+lengths : (c : tie.Start) → Arrays (walkAs (c .args .self))
+lengths c = search needs
+
+room : (c : tie.After-queue2) → Arrays (walk c)
+room c = lengths (going c .before .before .before)
 
 reached-0 : (c : tie.After-queue2) → Reached (walk c) 0 (walk c .producer)
-reached-0 c = reached-none (walk c) (in-parts c) (search needs) (search needs)
+reached-0 c = reached-none (walk c) (in-parts c) (room c .counter) (room c .queue)
+
+-- the radices that the work steps look up are those of the digits that move
+looked-up : (c : tie.After-queue2)
+    → movingOf (walk c .radices) (walk c .moving .digits) (walk c .moving .count) ≡ movingRadices (walk c)
+looked-up c = moving-radices (walk c) (room c) (ranged-known (walk c) (in-parts c))
 
 work-requires : tie.Need-work-requires
 work-requires c κs = workable (walk c) (in-parts c) (room c) 0 _ _ _ (reached-0 c) (omega arith)
 
 -- ---- the second
 abbrev left-1 : tie.After-work → Producer
-left-1 c = assembled (c .work .last .1 .1 .1 .0) (c .work .last .1 .1 .1 .1 .0) (c .work .result)
+left-1 c = assembled (c .work .last .1 .1 .1 .1 .1 .0) (c .work .last .1 .1 .1 .1 .1 .1 .0) (c .work .result)
 
 once-is : (c : tie.After-work) → left-1 c ≡ once (walk (c .before))
-once-is c = c .work .ensures
+once-is c = c .work .ensures ∙ ap (λ l. work l (walk (c .before) .capacity) (walk (c .before) .producer)) (looked-up (c .before))
 
 reached-1 : (c : tie.After-work) → Reached (walk (c .before)) 1 (left-1 c)
 reached-1 c =
     let begun = c .before in
     reached-by (walk begun) (in-parts begun) (room begun) 0 (walk begun .producer) (left-1 c) (reached-0 begun) (once-is c)
 
-slice-aggregate-work-4 : tie.Need-slice-aggregate-work-4
-slice-aggregate-work-4 c = search needs
-
 slice-aggregate-work-5 : tie.Need-slice-aggregate-work-5
 slice-aggregate-work-5 c = search needs
 
 slice-aggregate-work-6 : tie.Need-slice-aggregate-work-6
-slice-aggregate-work-6 c = search needs
+slice-aggregate-work-6 c = sym (room (c .before .before .before .before .before) .moving)
+
+slice-aggregate-work-7 : tie.Need-slice-aggregate-work-7
+slice-aggregate-work-7 c = search needs
+
+slice-aggregate-work-8 : tie.Need-slice-aggregate-work-8
+slice-aggregate-work-8 c = search needs
 
 abbrev first : tie.After-queue4 → tie.After-work
-first c = c .before .before .before .before .before
+first c = c .before .before .before .before .before .before
 
 work-requires-2 : tie.Need-work-requires-2
 work-requires-2 c κs =
@@ -91,14 +105,15 @@ abbrev start : tie.After-work2 → tie.After-queue2
 start c = first (c .before) .before
 
 abbrev left-2 : tie.After-work2 → Producer
-left-2 c = assembled (c .work2 .last .1 .1 .1 .0) (c .work2 .last .1 .1 .1 .1 .0) (c .work2 .result)
+left-2 c = assembled (c .work2 .last .1 .1 .1 .1 .1 .0) (c .work2 .last .1 .1 .1 .1 .1 .1 .0) (c .work2 .result)
 
 second-is : (c : tie.After-work2)
-    → left-2 c ≡ work (survey (walk (start c))) (walk (start c) .capacity) (left-1 (first (c .before)))
-second-is c = c .work2 .ensures
+    → left-2 c ≡ work (movingRadices (walk (start c))) (walk (start c) .capacity) (left-1 (first (c .before)))
+second-is c =
+    c .work2 .ensures ∙ ap (λ l. work l (walk (start c) .capacity) (left-1 (first (c .before)))) (looked-up (start c))
 
 twice-is : (c : tie.After-work2) → left-2 c ≡ twice (walk (start c))
-twice-is c = second-is c ∙ ap (work (survey (walk (start c))) (walk (start c) .capacity)) (once-is (first (c .before)))
+twice-is c = second-is c ∙ ap (work (movingRadices (walk (start c))) (walk (start c) .capacity)) (once-is (first (c .before)))
 
 reached-2 : (c : tie.After-work2) → Reached (walk (start c)) 2 (left-2 c)
 reached-2 c =
@@ -126,7 +141,10 @@ sub-if4 : tie.Need-sub-if4
 sub-if4 c = search needs
 
 add-if4 : tie.Need-add-if4
-add-if4 c = let s = in-parts (start (worked (c .before .before .before))) in omega arith
+add-if4 c =
+    let begun = start (worked (c .before .before .before)) in
+    let few = moving-most (walk begun) (room begun) (ranged-known (walk begun) (in-parts begun)) in
+    omega arith
 
 end-requires : tie.Need-end-requires
 end-requires c κs = search needs
@@ -141,21 +159,46 @@ returns-4 c =
     (taken .shifted .ensures)
     (c .before .if4 .taken)
 
+-- the oldest entry is turned back into a digit's number
+abbrev taken : tie.Else4 → tie.After-work2
+taken c = worked (c .before .before .before .before)
+
+slice-aggregate-digit-at : tie.Need-slice-aggregate-digit-at
+slice-aggregate-digit-at c = sym (room (start (taken (c .before))) .moving)
+
+digit-at-requires : tie.Need-digit-at-requires
+digit-at-requires c κs =
+    let other = c .before in
+    let done = taken other in
+    let begun = start done in
+    let known = ranged-known (walk begun) (in-parts begun) in
+    let (low, high) = entry-pos _ (in-parts begun) (room begun) 2 _ _ _ (reached-2 done) (other .before .before .before .if3 .left) in
+    let many = moving-count (walk begun) (room begun) known in
+    let not-last = other .if4 .left in
+    (moving-numbered (walk begun) (room begun) known, low, omega arith)
+
 advance-requires : tie.Need-advance-requires
 advance-requires c κs =
-    let some = c .before .before .before in
-    let done = worked (some .before) in
-    movable _ (in-parts (start done)) (room (start done)) 2 _ _ _ (reached-2 done) (some .if3 .left) (c .if4 .left)
+    let other = c .before .before in
+    let done = taken other in
+    movable _ (in-parts (start done)) (room (start done)) 2 _ _ _ (reached-2 done) (other .before .before .before .if3 .left)
+    (other .if4 .left)
+    _
+    (c .digit-at .ensures)
 
 returns-5 : tie.Need-returns-5
 returns-5 c =
-    let taken = c .before .before .before in
-    let done = worked (taken .before .before) in
+    let named = c .before in
+    let other = named .before .before in
+    let taken-out = other .before .before in
+    let done = taken other in
     let on = going (start done) in
     c .advance .ensures
-    ∙ moves-digit _ (tested (on .before)) (on .if2 .left) _ _ _ (twice-is done) (taken .before .if3 .left) _
-    (taken .shifted .ensures)
-    (c .before .if4 .left)
+    ∙ moves-digit _ (tested (on .before)) (on .if2 .left) _ _ _ (twice-is done) (taken-out .before .if3 .left) _
+    (taken-out .shifted .ensures)
+    (other .if4 .left)
+    _
+    (named .digit-at .ensures)
 
 pub step-spec : {M : Type 1} → statement M
 step-spec =
@@ -167,10 +210,12 @@ step-spec =
     slice-aggregate-work
     slice-aggregate-work-2
     slice-aggregate-work-3
-    work-requires
     slice-aggregate-work-4
+    work-requires
     slice-aggregate-work-5
     slice-aggregate-work-6
+    slice-aggregate-work-7
+    slice-aggregate-work-8
     work-requires-2
     returns-3
     array-read-k
@@ -179,5 +224,7 @@ step-spec =
     add-if4
     end-requires
     returns-4
+    slice-aggregate-digit-at
+    digit-at-requires
     advance-requires
     returns-5)

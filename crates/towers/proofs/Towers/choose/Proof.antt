@@ -1,4 +1,4 @@
--- `towers::Towers::choose` meets its contract: the radix of digit 1 tells which game is played. Assumes nothing.
+-- `towers::Towers::choose` meets its contract: the radix of the last disk tells which game is played. Assumes nothing.
 use Prim.Native.Nat.{_≤_}
 use mathlib.Core.Path.{sym}
 use native.Mathlib.Omega.{arith}
@@ -7,7 +7,8 @@ use lib.Seq.{length-take-le}
 use Rattle.towers_theory.specs.States.{Towers}
 use Rattle.towers_theory.specs.InRange.{Arrays}
 use Rattle.towers.specs.Structs.{towersAs}
-use Rattle.towers.proofs.Steps.{first-two, count-fits, first-disk, pair-disks, chooses-on-pair, chooses-in-sweep, chooses-on-ring}
+use Rattle.towers.proofs.Steps.{survey-right, count-fits, radix-positive, first-disk, pair-disks}
+use Rattle.towers.proofs.Steps.{chooses-on-pair, chooses-in-sweep, chooses-on-ring}
 use Rattle.towers.proofs.Towers.choose.Statement.{statement}
 use Rattle.towers.proofs.Towers.choose.Tie as tie
 
@@ -17,66 +18,77 @@ state c = towersAs (c .args .self)
 lengths : (c : tie.Start) → Arrays (state c)
 lengths c = search needs
 
+-- the entry, from where the disks are counted
+abbrev start : tie.After-wide → tie.Start
+start c = c .before .before
+
 fits : (c : tie.After-wide) → c .wide .result ≤ 48
-fits c = count-fits (state (c .before)) (lengths (c .before)) (c .before .pre) _ (c .wide .ensures .0)
+fits c =
+    let most = count-fits (state (start c)) (lengths (start c)) (start c .pre) in
+    let same = c .wide .ensures .0 in
+    omega arith
 
 wide-requires : tie.Need-wide-requires
 wide-requires c κs = search needs
 
-array-read-m : tie.Need-array-read-m
-array-read-m c = search needs
-
-array-share-prefix-radices : tie.Need-array-share-prefix-radices
-array-share-prefix-radices c =
-    let counted = c .before .before .before in
-    let long = lengths (counted .before) in
-    let most = fits counted in
-    omega arith
+last-radix-requires : tie.Need-last-radix-requires
+last-radix-requires c κs = survey-right (state (start c)) (lengths (start c)) (start c .pre)
 
 slice-aggregate-first-on-pair : tie.Need-slice-aggregate-first-on-pair
-slice-aggregate-first-on-pair c = sym (length-take-le _ _ (array-share-prefix-radices (c .before)))
+slice-aggregate-first-on-pair c = search needs
 
-array-share-prefix-word : tie.Need-array-share-prefix-word
-array-share-prefix-word c =
-    let counted = c .before .before .before .before in
-    let long = lengths (counted .before) in
+slice-aggregate-first-on-pair-2 : tie.Need-slice-aggregate-first-on-pair-2
+slice-aggregate-first-on-pair-2 c = search needs
+
+-- the radix that tells the game, from where the word is lent
+abbrev leading : tie.After-word2 → tie.After-last-radix
+leading c = c .before .before .before .before .before .before .before .before
+
+array-share-prefix-digits : tie.Need-array-share-prefix-digits
+array-share-prefix-digits c =
+    let counted = leading c .before in
+    let long = lengths (start counted) .moving in
     let most = fits counted in
     omega arith
 
-slice-aggregate-first-on-pair-2 : tie.Need-slice-aggregate-first-on-pair-2
-slice-aggregate-first-on-pair-2 c = sym (length-take-le _ _ (array-share-prefix-word (c .before)))
+slice-aggregate-first-on-pair-3 : tie.Need-slice-aggregate-first-on-pair-3
+slice-aggregate-first-on-pair-3 c = sym (length-take-le _ _ (array-share-prefix-digits (c .before)))
 
 first-on-pair-requires : tie.Need-first-on-pair-requires
 first-on-pair-requires c κs =
-    let counted = c .before .before .before .before .before in
-    let start = counted .before in
-    pair-disks (state start) (lengths start) (start .pre) _ (counted .wide .ensures .0)
+    let told = leading (c .before) in
+    let begun = start (told .before) in
+    pair-disks (state begun) (lengths begun) (begun .pre) _ (told .last-radix .ensures) _ (told .before .wide .ensures .0)
 
 returns : tie.Need-returns
 returns c =
-    let odd = c .before .before .before .before in
-    let counted = odd .before .before in
-    let start = counted .before in
-    chooses-on-pair (state start) (lengths start) (start .pre) _ (counted .wide .ensures .0) _
-    (odd .if1 .taken)
+    let lent = c .before .before in
+    let told = leading lent in
+    let begun = start (told .before) in
+    chooses-on-pair (state begun) (lengths begun) (begun .pre) _ (told .last-radix .ensures) _
+    (told .before .wide .ensures .0)
+    _
+    (lent .before .before .before .before .before .before .before .if1 .taken)
     (c .first-on-pair .ensures)
 
 sub-if2 : tie.Need-sub-if2
 sub-if2 c =
-    let start = c .before .before .before in
-    let two = first-two (state start) (lengths start) (start .pre) in
+    let told = c .before in
+    let begun = start (told .before) in
+    let positive = radix-positive (state begun) (lengths begun) (begun .pre) _ (told .last-radix .ensures) in
     omega arith
 
 returns-2 : tie.Need-returns-2
 returns-2 c =
     let ring = c .before .before in
-    let start = ring .before .before .before in
-    chooses-in-sweep (state start) (lengths start) (start .pre) (ring .if1 .left) (omega arith)
+    let told = ring .before in
+    let begun = start (told .before) in
+    chooses-in-sweep (state begun) (lengths begun) (begun .pre) _ (told .last-radix .ensures) (ring .if1 .left) (c .if2 .taken)
 
 array-share-prefix-pegs : tie.Need-array-share-prefix-pegs
 array-share-prefix-pegs c =
     let counted = c .before .before .before .before .before in
-    let long = lengths (counted .before) in
+    let long = lengths (start counted) .pegs in
     let most = fits counted in
     omega arith
 
@@ -85,20 +97,23 @@ slice-aggregate-first-elsewhere c = sym (length-take-le _ _ (array-share-prefix-
 
 first-elsewhere-requires : tie.Need-first-elsewhere-requires
 first-elsewhere-requires c κs =
-    let counted = c .before .before .before .before .before .before in
-    let start = counted .before in
+    let ring = c .before .before .before .before in
+    let told = ring .before in
+    let begun = start (told .before) in
     let same = slice-aggregate-first-elsewhere c in
-    let some = first-disk (state start) (lengths start) (start .pre) in
-    let n = counted .wide .ensures .0 in
+    let some = first-disk (state begun) (lengths begun) (begun .pre) _ (told .last-radix .ensures) (ring .if1 .left) in
+    let n = told .before .wide .ensures .0 in
     omega arith
 
 returns-3 : tie.Need-returns-3
 returns-3 c =
     let over = c .before .before .before in
     let ring = over .before .before in
-    let counted = ring .before .before in
-    let start = counted .before in
-    chooses-on-ring (state start) (lengths start) (start .pre) _ (counted .wide .ensures .0) _
+    let told = ring .before in
+    let begun = start (told .before) in
+    chooses-on-ring (state begun) (lengths begun) (begun .pre) _ (told .last-radix .ensures) _
+    (told .before .wide .ensures .0)
+    _
     (ring .if1 .left)
     (omega arith)
     (c .first-elsewhere .ensures)
@@ -108,11 +123,11 @@ choose-spec =
     tie.close
     (tie.spec
     wide-requires
-    array-read-m
-    array-share-prefix-radices
+    last-radix-requires
     slice-aggregate-first-on-pair
-    array-share-prefix-word
     slice-aggregate-first-on-pair-2
+    array-share-prefix-digits
+    slice-aggregate-first-on-pair-3
     first-on-pair-requires
     returns
     sub-if2

@@ -1,16 +1,18 @@
--- `towers::Towers::open` meets its contract: a stage that refuses hands the state back, and what passes every stage opens. Assumes
--- nothing.
+-- `towers::Towers::open` meets its contract: a stage that refuses hands the state back, and what passes every stage opens.
+-- Assumes nothing.
 use mathlib.Core.Path.{_≡_, sym, ap, _∙_}
 use native.Mathlib.Omega.{arith}
 use borrow.Author.Needs.{needs}
 use lib.Seq.{length-take-le}
 use Rattle.gray_theory.specs.Answers.{given}
 use Rattle.gray_theory.specs.Calls.{sizeCall}
+use Rattle.digit.specs.Moving.{movingAs}
 use Rattle.gray.specs.Enums.{countedAs}
 use Rattle.gray_theory.specs.Refusals.{accepted}
 use Rattle.gray.specs.Passing.{passed-on}
+use Rattle.towers_theory.specs.InRange.{Arrays}
 use Rattle.towers.specs.Structs.{towersAs}
-use Rattle.towers.proofs.Ranges.{opening-refused, array-room, array-some, counts-refused, opening-given}
+use Rattle.towers.proofs.Ranges.{opening-refused, array-room, fresh-fits, counts-refused, opening-given}
 use Rattle.towers.proofs.Towers.open.Statement.{statement}
 use Rattle.towers.proofs.Towers.open.Tie as tie
 
@@ -44,32 +46,74 @@ reversed-requires c κs = search needs
 array-share-prefix-digits : tie.Need-array-share-prefix-digits
 array-share-prefix-digits c = array-room _ _ (size-is (c .before)) _ (c .reversed .ensures)
 
-slice-aggregate-playable : tie.Need-slice-aggregate-playable
-slice-aggregate-playable c = sym (length-take-le _ _ (array-share-prefix-digits (c .before)))
+slice-aggregate-moving : tie.Need-slice-aggregate-moving
+slice-aggregate-moving c = sym (length-take-le _ _ (array-share-prefix-digits (c .before)))
 
-playable-requires : tie.Need-playable-requires
-playable-requires c κs = array-some _ _ (size-is (c .before .before)) _ (c .before .reversed .ensures)
+moving-requires : tie.Need-moving-requires
+moving-requires c κs = search needs
 
-returns-2 : tie.Need-returns-2
-returns-2 c =
-    let made = c .before .before .before in
-    counts-refused _ _ (size-is (made .before)) _ (made .reversed .ensures) _ _ (c .before .playable .ensures) (c .if1 .taken)
+-- the radices' array and the digits that move, from where the fresh state is made
+abbrev found : tie.After-fresh → tie.After-moving
+found c = c .before
+
+abbrev made : tie.After-fresh → tie.After-reversed
+made c = found c .before .before
 
 cast-fresh : tie.Need-cast-fresh
 cast-fresh c =
-    let told = c .before .before .before .before in
+    let told = c .before .before .before in
     let most = accepted (told .before .before .before .before .args .radices .now) _ (size-is told) .most in
     omega arith
 
 fresh-requires : tie.Need-fresh-requires
 fresh-requires c κs = search needs
 
+last-radix-requires : tie.Need-last-radix-requires
+last-radix-requires c κs =
+    fresh-fits _ _ (size-is (made c .before)) _ (made c .reversed .ensures) (movingAs (found c .moving .result))
+    (found c .moving .ensures)
+    (towersAs (c .fresh .result))
+    (c .fresh .ensures)
+
+radices-play-requires : tie.Need-radices-play-requires
+radices-play-requires c κs = search needs
+
+lengths : (c : tie.After-fresh) → Arrays (towersAs (c .fresh .result))
+lengths c = search needs
+
+returns-2 : tie.Need-returns-2
+returns-2 c =
+    let tested = c .before in
+    let told = tested .before in
+    let new = told .before in
+    counts-refused _ _ (size-is (made new .before)) _ (made new .reversed .ensures) (movingAs (found new .moving .result))
+    (found new .moving .ensures)
+    (towersAs (new .fresh .result))
+    (new .fresh .ensures)
+    _
+    (lengths new)
+    _
+    (told .last-radix .ensures)
+    _
+    (tested .radices-play .ensures)
+    (c .if1 .taken)
+
 returns-3 : tie.Need-returns-3
 returns-3 c =
-    let passed = c .before in
-    let made = passed .before .before .before in
-    opening-given _ _ (size-is (made .before)) _ (made .reversed .ensures) _ _ (passed .before .playable .ensures) (passed .if1 .left) _
-    (c .fresh .ensures)
+    let tested = c .before in
+    let told = tested .before in
+    let new = told .before in
+    opening-given _ _ (size-is (made new .before)) _ (made new .reversed .ensures) (movingAs (found new .moving .result))
+    (found new .moving .ensures)
+    (towersAs (new .fresh .result))
+    (new .fresh .ensures)
+    _
+    (lengths new)
+    _
+    (told .last-radix .ensures)
+    _
+    (tested .radices-play .ensures)
+    (c .if1 .left)
 
 pub open-spec : {M : Type 1} → statement M
 open-spec =
@@ -82,9 +126,11 @@ open-spec =
     returns
     reversed-requires
     array-share-prefix-digits
-    slice-aggregate-playable
-    playable-requires
-    returns-2
+    slice-aggregate-moving
+    moving-requires
     cast-fresh
     fresh-requires
+    last-radix-requires
+    radices-play-requires
+    returns-2
     returns-3)

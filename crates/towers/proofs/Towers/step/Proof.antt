@@ -28,15 +28,15 @@ wide-requires c κs = search needs
 
 returns-2 : tie.Need-returns-2
 returns-2 c =
-    let chosen = c .before .before in
+    let chosen = c .before .before .before in
     walk-over _ (ranged (chosen .before)) _ (chosen .choose .ensures) (omega arith)
 
 advance-requires : tie.Need-advance-requires
-advance-requires c κs = (ranged (c .before .before .before), omega arith)
+advance-requires c κs = (ranged (c .before .before .before .before), omega arith)
 
 returns-3 : tie.Need-returns-3
 returns-3 c =
-    let chosen = c .before .before .before in
+    let chosen = c .before .before .before .before in
     c .advance .ensures ∙ moves-disk _ (ranged (chosen .before)) _ (chosen .choose .ensures) (omega arith)
 
 pub step-spec : {M : Type 1} → statement M
