@@ -1,5 +1,5 @@
-//! The proved library against plain Rust (src/plain) for the same jobs, in one process: `bench [--quick]`. It prints Markdown, for
-//! docs/BENCHMARKS.md, which says how to read it.
+//! The proved library against plain Rust (src/plain) for the same jobs, in one process: `bench [--quick]`. It prints Markdown,
+//! for docs/BENCHMARKS.md, which says how to read it.
 use outside::capi::{self, Answer};
 use outside::chance::Chance;
 use outside::plain::{disks, list, log, walk, words};
@@ -33,6 +33,15 @@ impl Survey {
         }
     }
 
+    /// So many that move, and locked ones spread evenly among them.
+    fn locked(n: usize, m: u8, locked: usize) -> Survey {
+        let every = (n + locked) / locked;
+        Survey {
+            name: format!("{n} of {m} and {locked} locked"),
+            radices: (1..=n + locked).map(|i| if i % every == 0 { 1 } else { m }).collect(),
+        }
+    }
+
     fn mixed(name: &str, radices: &[u8]) -> Survey {
         Survey {
             name: name.into(),
@@ -44,9 +53,10 @@ impl Survey {
         capi::size(&self.radices).expect("a survey that is accepted")
     }
 
-    /// The least capacity with which the buffered engine never runs dry.
+    /// The least capacity with which the buffered engine never runs dry: locked sluices need none of it.
     fn capacity(&self) -> usize {
-        self.radices.len().div_ceil(2)
+        let moving = self.radices.iter().filter(|&&m| m > 1).count();
+        moving.div_ceil(2).max(1)
     }
 
     /// Ranks from 0 to `most`, the same in every run of the program.
@@ -61,6 +71,16 @@ fn surveys(mixed: Survey) -> Vec<Survey> {
     let mut surveys: Vec<Survey> = equal.map(|(n, m)| Survey::equal(n, m)).into();
     surveys.insert(4, mixed);
     surveys
+}
+
+/// More of them for the engines, whose work locked sluices change: the same with and without these beside each other.
+fn more_surveys() -> [Survey; 4] {
+    [
+        Survey::equal(10, 4),
+        Survey::locked(20, 3, 10),
+        Survey::equal(44, 2),
+        Survey::locked(44, 2, 4),
+    ]
 }
 
 /// In what a job is counted, and how a time of so many ns for one is shown.
@@ -192,7 +212,8 @@ fn head(title: &str, unit: &Unit, others: &[&str]) {
     println!("|---|---|{}", "---|".repeat(columns.len()));
 }
 
-/// The bytes that all sides write, and their answer: memory of `room` bytes that was the same for each. Panics where one differs.
+/// The bytes that all sides write, and their answer: memory of `room` bytes that was the same for each. Panics where one
+/// differs.
 fn alike(room: usize, sides: &[Writer]) -> (Vec<u8>, u64) {
     let mut written = sides.iter().map(|write| {
         let mut out = vec![0xaa; room];
@@ -427,13 +448,17 @@ const TABLES: [Table; 8] = [
 const TOWERS: &str = "towers";
 
 impl Table {
-    /// The disk engine plays with counts that are all odd, or all even and equal.
+    /// The disk engine plays with counts that are all odd, or all even and equal, but for locked sluices.
     fn surveys(&self) -> Vec<Survey> {
-        surveys(if self.name == TOWERS {
+        let mut surveys = surveys(if self.name == TOWERS {
             Survey::mixed("20 mixed, odd, 3 to 11", &MIXED_ODD)
         } else {
             Survey::mixed("20 mixed, 2 to 12", &MIXED)
-        })
+        });
+        if self.others == ENGINES {
+            surveys.extend(more_surveys());
+        }
+        surveys
     }
 
     fn print(&self, bench: &Bench) {

@@ -1,5 +1,6 @@
 //! Every refusal that a call of the library can give, at its bound, beside the accepted neighbour. What is expected is written
-//! here as document 01 has it, and both sides are held to it. (7 and 10 need an engine's state: see `cases`.)
+//! here as documents 01 and 02 have it, and both sides are held to it. (7 and 10 need an engine's state: see `cases`.)
+use super::locked::{self, END_OF_NONE};
 use super::{both, surveys, Group};
 use crate::capi::Answer;
 use crate::chance::Chance;
@@ -26,15 +27,16 @@ pub fn compare(g: &mut Group, _: &mut Chance) {
     other_logs(g);
     combinations(g);
     combinations_in_logs(g);
+    locked::compare(g);
 }
 
 /// A log made of parts, read.
-fn read(g: &mut Group, name: &str, expected: Answer, parts: &[&[u8]]) {
+pub fn read(g: &mut Group, name: &str, expected: Answer, parts: &[&[u8]]) {
     both::log_read(g, &parts.concat()).is(g, || name.into(), expected);
 }
 
 /// A start and the sluice records of these counts, sluice 1 first.
-fn opening(counts: &[u8], capacity: u8) -> Vec<u8> {
+pub fn opening(counts: &[u8], capacity: u8) -> Vec<u8> {
     let records = (1..).zip(counts).flat_map(|(number, &m)| [2, number, m]);
     [1, counts.len() as u8, capacity].into_iter().chain(records).collect()
 }
@@ -92,9 +94,37 @@ fn log_shapes(g: &mut Group) {
 fn sluice_numbers(g: &mut Group) {
     for (n, expected) in [(0, Err(2)), (1, Ok(2)), (48, Ok(1 << 48)), (49, Err(2)), (1000, Err(2))] {
         both::size(g, &vec![2; n]).is(g, || format!("{n} sluices"), expected);
+        both::size(g, &vec![1; n]).is(g, || format!("{n} locked sluices"), expected.map(|_| 1));
     }
     for (n, expected) in [(0, Err(2)), (1, Ok(0)), (48, Ok(0)), (49, Err(2)), (255, Err(2))] {
         read(g, &format!("a log of {n} sluices"), expected, &[&opening(&vec![2; n], 1)]);
+        read(
+            g,
+            &format!("a log of {n} locked sluices"),
+            expected,
+            &[&opening(&vec![1; n], 1), &END_OF_NONE],
+        );
+    }
+    // Locked sluices count too.
+    for (moving, locked, expected) in [
+        (2, 46, Ok(4)),
+        (2, 47, Err(2)),
+        (47, 1, Ok(1 << 47)),
+        (48, 1, Err(2)),
+        (1, 48, Err(2)),
+    ] {
+        let counts = [vec![2; moving], vec![1; locked]].concat();
+        both::size(g, &counts).is(g, || format!("{moving} moving, {locked} locked sluices"), expected);
+        both::moves(g, &counts, 32, 4).is(
+            g,
+            || format!("a walk on {moving} moving, {locked} locked sluices"),
+            expected.map(|size| (size - 1).min(4)),
+        );
+        both::towers(g, &counts, 4).is(
+            g,
+            || format!("disks on {moving} moving, {locked} locked sluices"),
+            expected.map(|size| (size - 1).min(4)),
+        );
     }
 }
 
@@ -102,19 +132,17 @@ fn sluice_numbers(g: &mut Group) {
 fn notch_counts(g: &mut Group) {
     for n in [1, 2, 5] {
         for place in 0..n {
-            for (m, expected) in [(0, Err(3)), (1, Err(3)), (2, Ok(2)), (255, Ok(255))] {
+            for (m, expected) in [(0, Err(3)), (1, Ok(1)), (2, Ok(2)), (255, Ok(255))] {
                 let mut counts = vec![2; n];
                 counts[place] = m;
-                both::size(g, &counts).is(
-                    g,
-                    || format!("count {m} at place {place} of {n}"),
-                    expected.map(|m: u64| m << (n - 1)),
-                );
+                let settings = expected.map(|m: u64| m << (n - 1));
+                both::size(g, &counts).is(g, || format!("count {m} at place {place} of {n}"), settings);
+                let end = if settings == Ok(1) { &END_OF_NONE[..] } else { &[] };
                 read(
                     g,
                     &format!("a log with count {m} at place {place} of {n}"),
                     expected.map(|_| 0),
-                    &[&opening(&counts, 1)],
+                    &[&opening(&counts, 1), end],
                 );
             }
         }
@@ -135,7 +163,23 @@ fn sizes(g: &mut Group) {
             [vec![128; 8], vec![64]].concat(),
             Ok(SETTINGS_AT_LIMIT),
         ),
+        (
+            "2^62 from fours and 17 locked",
+            [vec![1; 9], vec![4; 31], vec![1; 8]].concat(),
+            Ok(SETTINGS_AT_LIMIT),
+        ),
+        (
+            "2^62 from few counts and 39 locked",
+            [vec![64], vec![1; 39], vec![128; 8]].concat(),
+            Ok(SETTINGS_AT_LIMIT),
+        ),
         ("2^63", [vec![4; 31], vec![2]].concat(), Err(4)),
+        ("2^63 with 16 locked", [vec![4; 31], vec![1; 16], vec![2]].concat(), Err(4)),
+        (
+            "the smallest product over 2^62 with 38 locked",
+            [&[1; 20], &surveys::SMALLEST_OVER[..], &[1; 18]].concat(),
+            Err(4),
+        ),
         ("2^62 and a half of it", [vec![4; 30], vec![6]].concat(), Err(4)),
         ("the smallest product over 2^62", surveys::SMALLEST_OVER.to_vec(), Err(4)),
         ("7 counts of 255", vec![255; 7], Ok(255_u64.pow(7))),
@@ -178,6 +222,11 @@ fn capacities(g: &mut Group) {
             || format!("a log, capacity {capacity}"),
             if fits { Ok(17) } else { Err(5) },
         );
+        both::moves(g, &[1, 1], capacity, 9).is(
+            g,
+            || format!("a walk with all locked, capacity {capacity}"),
+            if fits { Ok(0) } else { Err(5) },
+        );
     }
     for (capacity, expected) in [(0, Err(5)), (1, Ok(0)), (32, Ok(0)), (33, Err(5)), (255, Err(5))] {
         read(
@@ -191,7 +240,7 @@ fn capacities(g: &mut Group) {
 
 /// Refusal 6.
 fn disk_counts(g: &mut Group) {
-    let cases: [(&[u8], Answer); 12] = [
+    let cases: [(&[u8], Answer); 28] = [
         (&[3, 5], Ok(14)),
         (&[5, 3, 7], Ok(50)),
         (&[3], Ok(2)),
@@ -204,6 +253,22 @@ fn disk_counts(g: &mut Group) {
         (&[2, 3], Err(6)),
         (&[3, 3, 2], Err(6)),
         (&[4, 4, 4, 6], Err(6)),
+        (&[1], Ok(0)),
+        (&[1, 1, 1], Ok(0)),
+        (&[1; 48], Ok(0)),
+        (&[1, 2], Ok(1)),
+        (&[2, 1], Ok(1)),
+        (&[1, 2, 2], Ok(3)),
+        (&[2, 1, 2], Ok(3)),
+        (&[2, 2, 1], Ok(3)),
+        (&[4, 1, 1, 4, 1], Ok(15)),
+        (&[3, 1, 5], Ok(14)),
+        (&[1, 255, 1], Ok(50)),
+        (&[1, 2, 4], Err(6)),
+        (&[4, 2, 1], Err(6)),
+        (&[2, 1, 3], Err(6)),
+        (&[3, 1, 2], Err(6)),
+        (&[1, 4, 4, 1, 6], Err(6)),
     ];
     for (counts, expected) in cases {
         both::towers(g, counts, 50).is(g, || format!("disks on {counts:?}"), expected);
@@ -346,19 +411,21 @@ fn other_logs(g: &mut Group) {
 /// Two or more apply: the lowest is given.
 fn combinations(g: &mut Group) {
     let over = [4; 32];
-    let over_with_one = [&over[..], &[1]].concat();
+    let over_with_zero = [&over[..], &[0]].concat();
     for (name, counts, expected) in [
-        ("2 with 3", vec![1; 49], 2),
+        ("2 with 3", vec![0; 49], 2),
         ("2 with 4", vec![2; 63], 2),
         ("2 with 3 and 4", [vec![255; 60], vec![0]].concat(), 2),
-        ("3 with 4", over_with_one.clone(), 3),
+        ("2 with 3 and a locked one", [vec![1; 48], vec![0]].concat(), 2),
+        ("3 with 4", over_with_zero.clone(), 3),
         ("3 with 4, the 0 first", [vec![0], vec![255; 20]].concat(), 3),
+        ("3 among locked ones", [vec![1; 20], vec![0], vec![1; 27]].concat(), 3),
     ] {
         both::size(g, &counts).is(g, || name.into(), Err(expected));
     }
     for (name, counts, capacity, expected) in [
         ("2 with 5 in a walk", &[][..], 0, 2),
-        ("3 with 5 in a walk", &[2, 1], 33, 3),
+        ("3 with 5 in a walk", &[2, 0], 33, 3),
         ("4 with 5 in a walk", &over, 0, 4),
     ] {
         both::moves(g, counts, capacity, 4).is(g, || name.into(), Err(expected));
@@ -366,8 +433,9 @@ fn combinations(g: &mut Group) {
     for (name, counts, expected) in [
         ("2 with 6", &[[3; 40], [2; 40]].concat()[..], 2),
         ("3 with 6", &[3, 0, 4], 3),
-        ("3, where all are odd", &[3, 1, 5], 3),
+        ("3, where all others are odd", &[3, 0, 5], 3),
         ("3, where all are even and equal", &[0, 0], 3),
+        ("3, where all others are locked", &[1, 0, 1], 3),
         ("4 with 6", &[[200; 10], [3; 10]].concat(), 4),
         ("4, where all are odd", &[201; 20], 4),
     ] {
@@ -376,7 +444,7 @@ fn combinations(g: &mut Group) {
     for (name, counts, setting, expected) in [
         ("2 with 8 in a rank", &[][..], &[1_u8][..], 2),
         ("2 alone in a rank of the empty setting", &[], &[], 2),
-        ("3 with 8 in a rank", &[1, 3], &[1, 3], 3),
+        ("3 with 8 in a rank", &[0, 3], &[1, 3], 3),
         ("4 with 8 in a rank", &over, &[4], 4),
     ] {
         both::rank(g, counts, setting).is(g, || name.into(), Err(expected));
@@ -392,7 +460,7 @@ fn combinations(g: &mut Group) {
     }
     for (name, counts, capacity, t, room, expected) in [
         ("2 with 5, 8 and 9 in a log", &[][..], 0, 9, 0, 2),
-        ("3 with 5, 8 and 9 in a log", &[2, 1], 33, 9, 0, 3),
+        ("3 with 5, 8 and 9 in a log", &[2, 0], 33, 9, 0, 3),
         ("4 with 5, 8 and 9 in a log", &over, 0, u64::MAX, 0, 4),
         ("4 with 8 and 9 in a log", &over, 1, u64::MAX, 0, 4),
         ("5 with 8 and 9 in a log", &TWO, 33, 6, 0, 5),
@@ -414,16 +482,22 @@ fn combinations_in_logs(g: &mut Group) {
         Err(1),
         &[&opening(&[2; 49], 1), &[3]],
     );
-    read(g, "1 with 3", Err(1), &[&opening(&[1, 2], 1), &[3]]);
+    read(g, "1 with 3", Err(1), &[&opening(&[0, 2], 1), &[3]]);
     read(g, "1 with 4", Err(1), &[&opening(&[255; 9], 1), &[9]]);
     read(g, "1 with 5", Err(1), &[&opening(&TWO, 0), &[3]]);
     read(g, "1 with 11", Err(1), &[&START, &SLUICES, &wrong_move, &[7]]);
-    read(g, "2 with 3", Err(2), &[&opening(&[1; 49], 1)]);
+    read(g, "2 with 3", Err(2), &[&opening(&[0; 49], 1)]);
     read(g, "2 with 5", Err(2), &[&opening(&[], 0)]);
     read(g, "2 with 11", Err(2), &[&opening(&[], 1), &wrong_move]);
     read(g, "3 with 4", Err(3), &[&opening(&[[255; 9].as_slice(), &[0]].concat(), 1)]);
-    read(g, "3 with 5", Err(3), &[&opening(&[1, 2], 0)]);
-    read(g, "3 with 11", Err(3), &[&opening(&[1, 2], 1), &wrong_move]);
+    read(g, "3 with 5", Err(3), &[&opening(&[0, 2], 0)]);
+    read(g, "3 with 11", Err(3), &[&opening(&[0, 2], 1), &wrong_move]);
+    read(
+        g,
+        "3 with 5 and 11, the others locked",
+        Err(3),
+        &[&opening(&[1, 0, 1], 0), &wrong_move],
+    );
     read(g, "4 with 5", Err(4), &[&opening(&[255; 9], 33)]);
     read(g, "4 with 11", Err(4), &[&opening(&[255; 9], 1), &wrong_move]);
     read(g, "5 with 11", Err(5), &[&opening(&TWO, 33), &wrong_move]);

@@ -1,14 +1,16 @@
 //! States of both engines, fresh and made up, through the program `cases`: it keeps a state of each engine from line to line,
 //! changes it on demand and prints all of it after each step.
-use super::{in_repository, process, script::Script, surveys, Group};
+use super::{faults, in_repository, process, ranges, script::Script, surveys, Group};
 use crate::chance::Chance;
 use crate::second::buffered::{Walk, MOST_CAPACITY};
 use crate::second::disks::Disks;
 use crate::second::sluices::Sluices;
-use crate::second::survey::{self, MOST_SLUICES};
+use crate::second::survey;
 
-/// The program reads no more than 32,768 bytes; the longest case fits in what this leaves.
-const INPUT: usize = 24_000;
+/// The most bytes that the program reads.
+const MOST_INPUT: usize = 32_768;
+/// Where a script is ended; the longest case fits in what this leaves.
+const INPUT: usize = 20_000;
 
 /// Adds the lines of one case to a script.
 type Case = fn(&mut Script, &mut Chance);
@@ -26,17 +28,36 @@ pub fn compare(g: &mut Group, chance: &mut Chance) {
     script.step_disks();
     for (times, case) in cases {
         for _ in 0..times {
-            case(&mut script, chance);
-            if script.input().len() > INPUT {
-                finish(g, std::mem::take(&mut script));
-            }
+            add(g, &mut script, |script| case(script, chance));
+        }
+    }
+    for sluices in ranges::small_settings() {
+        add(g, &mut script, |script| ranges::every_moving_field(script, &sluices));
+    }
+    for counts in ranges::small_surveys() {
+        for case in [
+            ranges::moving_of_walk,
+            ranges::fields_of_walk,
+            ranges::moving_of_disks,
+            ranges::fields_of_disks,
+        ] {
+            add(g, &mut script, |script| case(script, &counts));
         }
     }
     finish(g, script);
 }
 
+/// One case more, and a script that has become long enough is run.
+fn add(g: &mut Group, script: &mut Script, case: impl FnOnce(&mut Script)) {
+    case(script);
+    if script.input().len() > INPUT {
+        finish(g, std::mem::take(script));
+    }
+}
+
 /// Runs a script and compares what each of its steps printed.
 fn finish(g: &mut Group, script: Script) {
+    assert!(script.input().len() <= MOST_INPUT, "a case is too long");
     let printed = match process::output(&in_repository("target/bin/cases"), script.input().as_bytes()) {
         Ok(bytes) => String::from_utf8_lossy(&bytes).into_owned(),
         Err(error) => error,
@@ -55,10 +76,10 @@ fn finish(g: &mut Group, script: Script) {
 
 /// Openings that are accepted or refused; a refused one leaves the state as it was.
 fn openings(script: &mut Script, chance: &mut Chance) {
-    let (length, lowest) = (chance.pick(&[0, 1, 2, 48, 49]), chance.byte(1, 2));
+    let (length, lowest) = (chance.pick(&[0, 1, 2, 48, 49]), chance.byte(0, 2));
     let (low, any) = (chance.bytes(length, lowest, 2), surveys::any(chance));
     let (below, over) = (surveys::just_below(chance), surveys::over(chance));
-    let counts = chance.pick(&[low.clone(), low, any, below, over]);
+    let counts = chance.pick(&[vec![1; length], low.clone(), low, any, below, over]);
     script.open_walk(&counts, chance.pick(&[0, 1, 32, 33, 255]));
     script.step_walk();
     let disks = surveys::for_disks(chance, 48, 255);
@@ -68,7 +89,7 @@ fn openings(script: &mut Script, chance: &mut Chance) {
 
 /// From the start past the end, or past the first dry call, if that is not too far.
 fn fresh_walk(script: &mut Script, chance: &mut Chance) {
-    let (small, any) = (surveys::small(chance, 4, 4), surveys::any(chance));
+    let (small, any) = (surveys::small(chance, 6, 4), surveys::any(chance));
     let counts = chance.pick(&[small.clone(), small, any]);
     let capacity = if chance.once_in(3) {
         chance.between(1, MOST_CAPACITY)
@@ -76,13 +97,18 @@ fn fresh_walk(script: &mut Script, chance: &mut Chance) {
         chance.between(1, 2)
     };
     script.open_walk(&counts, capacity);
-    let most = if counts.len() > 8 { 8 } else { 40 };
-    for _ in 0..most.min(survey::size(&counts).unwrap_or(0) + 2) {
+    for _ in 0..steps(&counts, 40) {
         script.step_walk();
     }
 }
 
-/// A state in range, stepped; then the same with one fault, which is refused and stays.
+/// Past the end, but at most so many steps, and fewer where what is printed is long.
+fn steps(counts: &[u8], most: u64) -> u64 {
+    let most = if counts.len() > 8 { 8 } else { most };
+    most.min(survey::size(counts).expect("the survey can be opened") + 2)
+}
+
+/// A state in range, stepped; then the same with one change, mostly a fault, with which it is refused and stays.
 fn made_up_walk(script: &mut Script, chance: &mut Chance) {
     let counts = some_counts(chance);
     let walk = walk_in_range(chance, &counts);
@@ -91,18 +117,22 @@ fn made_up_walk(script: &mut Script, chance: &mut Chance) {
     for _ in 0..chance.between(1, 4) {
         script.step_walk();
     }
-    script.make_walk(&faulty_walk(chance, walk));
+    if chance.once_in(3) {
+        script.lay_open_walk();
+    }
+    script.make_walk(&faults::walk(chance, walk));
     script.step_walk();
     script.step_walk();
 }
 
 fn some_counts(chance: &mut Chance) -> Vec<u8> {
-    match chance.below(12) {
+    match chance.below(14) {
         0 => surveys::any(chance),
         1 => surveys::just_below(chance),
         2 => surveys::exact(chance),
         3 => surveys::small(chance, 3, 255),
-        _ => surveys::small(chance, 4, 4),
+        4 => surveys::few_moving(chance),
+        _ => surveys::small(chance, 5, 4),
     }
 }
 
@@ -118,26 +148,48 @@ fn set_notches(chance: &mut Chance, sluices: &mut Sluices) {
         let last = sluices.radix[x] - 1;
         let a = often_the_ends(chance, 0, last.into()) as u8;
         sluices.digit[x] = a;
-        sluices.down[x] = a == last || (a > 0 && chance.once_in(2));
+        sluices.down[x] = a > 0 && (a == last || chance.once_in(2));
+    }
+}
+
+/// Places of an array past what counts may hold anything.
+fn litter(chance: &mut Chance, past: &mut [u8]) {
+    if past.is_empty() || chance.once_in(2) {
+        return;
+    }
+    for _ in 0..chance.between(1, 3) {
+        past[often_the_ends(chance, 0, past.len() as u64 - 1) as usize] = chance.byte(0, 255);
+    }
+}
+
+fn litter_sluices(chance: &mut Chance, sluices: &mut Sluices) {
+    let n = sluices.n;
+    litter(chance, &mut sluices.radix[n..]);
+    litter(chance, &mut sluices.digit[n..]);
+    litter(chance, &mut sluices.number[sluices.moving..]);
+    if let Some(down) = sluices.down.get_mut(n) {
+        *down = chance.once_in(2);
     }
 }
 
 fn walk_in_range(chance: &mut Chance, counts: &[u8]) -> Walk {
     let capacity = often_the_ends(chance, 1, highest_capacity(counts)) as usize;
     let mut walk = Walk::open(counts, capacity).expect("the survey and the capacity can be opened");
-    let beyond = counts.len() as u64 + 1;
+    let last_place = walk.last_place();
     set_notches(chance, &mut walk.sluices);
-    for i in 1..=beyond as usize {
+    for i in 1..=last_place {
         walk.counter[i - 1] = often_the_ends(chance, 0, u64::from(walk.count(i)) - 1) as u8;
     }
-    walk.place = often_the_ends(chance, 1, beyond) as usize;
+    walk.place = often_the_ends(chance, 1, last_place as u64) as usize;
     walk.queued = often_the_ends(chance, 0, capacity as u64) as usize;
     for entry in &mut walk.entry[..walk.queued] {
-        *entry = often_the_ends(chance, 1, beyond) as u8;
+        *entry = often_the_ends(chance, 1, last_place as u64) as u8;
     }
     walk.moves = often_the_ends(chance, 0, survey::size(counts).expect("the survey can be opened") - 1);
     walk.ended = chance.once_in(8);
-    walk.steps = often_the_ends(chance, 0, most_steps(&walk));
+    walk.steps = often_the_ends(chance, 0, faults::most_steps(&walk));
+    litter_sluices(chance, &mut walk.sluices);
+    litter(chance, &mut walk.counter[last_place..]);
     walk
 }
 
@@ -150,80 +202,22 @@ fn highest_capacity(counts: &[u8]) -> u64 {
     }
 }
 
-fn most_steps(walk: &Walk) -> u64 {
-    2 * walk.moves + if walk.ended { 2 } else { 0 }
-}
-
-/// A state out of range in one thing, mostly by one.
-fn faulty_walk(chance: &mut Chance, mut walk: Walk) -> Walk {
-    let beyond = walk.sluices.n + 1;
-    let i = chance.between(1, beyond);
-    match chance.below(10) {
-        0 | 1 => faulty_sluices(chance, &mut walk.sluices),
-        2 => walk.capacity = chance.pick(&[0, 33, 255]),
-        3 => walk.counter[i - 1] = walk.count(i),
-        4 => walk.place = chance.pick(&[0, beyond + 1, 255]),
-        5 => {
-            walk.queued = chance.pick(&[walk.capacity + 1, 33, 255]);
-            walk.entry = [1; MOST_CAPACITY];
-        }
-        6 => {
-            walk.queued = walk.queued.max(1);
-            walk.entry = [1; MOST_CAPACITY];
-            walk.entry[chance.between(0, walk.queued - 1)] = chance.pick(&[0, beyond as u8 + 1, 255]);
-        }
-        7 => {
-            walk.moves = survey::size(&walk.sluices.counts()).expect("the survey can be opened");
-            walk.steps = 0;
-        }
-        8 => walk.moves = u64::MAX - chance.below(3),
-        _ => walk.steps = chance.pick(&[most_steps(&walk) + 1, most_steps(&walk) + 1, u64::MAX]),
-    }
-    walk
-}
-
-/// Sluices out of range in one thing.
-fn faulty_sluices(chance: &mut Chance, sluices: &mut Sluices) {
-    let n = sluices.n;
-    let x = chance.between(0, n - 1);
-    match chance.below(8) {
-        0 => sluices.n = chance.pick(&[0, 49, 255]),
-        1 => sluices.n = MOST_SLUICES.min(n + 1),
-        2 => sluices.radix[x] = chance.byte(0, 1),
-        3 => sluices.digit[x] = chance.pick(&[sluices.radix[x], 255]),
-        4 => (sluices.digit[x], sluices.down[x]) = (0, true),
-        5 => (sluices.digit[x], sluices.down[x]) = (sluices.radix[x] - 1, false),
-        6 => {
-            // N over 2^62, each notch below its count still
-            sluices.n = MOST_SLUICES;
-            sluices.radix = [chance.byte(3, 255); MOST_SLUICES];
-            sluices.digit = [1; MOST_SLUICES];
-        }
-        _ => {
-            // one sluice more, of a count that is none
-            sluices.n = MOST_SLUICES.min(n + 1);
-            sluices.radix[sluices.n - 1] = 1;
-        }
-    }
-}
-
 /// From the start past the end, if that is not too far.
 fn fresh_disks(script: &mut Script, chance: &mut Chance) {
-    let (small, any) = (surveys::for_disks(chance, 4, 5), surveys::for_disks(chance, 48, 255));
+    let (small, any) = (surveys::for_disks(chance, 6, 5), surveys::for_disks(chance, 48, 255));
     let counts = chance.pick(&[small.clone(), small, any]);
     script.open_disks(&counts);
-    let most = if counts.len() > 8 { 8 } else { 60 };
-    for _ in 0..most.min(survey::size(&counts).unwrap_or(0) + 2) {
+    for _ in 0..steps(&counts, 60) {
         script.step_disks();
     }
 }
 
-/// A state in range, moved; then the same with one fault.
+/// A state in range, moved; then the same with one change, mostly a fault.
 fn made_up_disks(script: &mut Script, chance: &mut Chance) {
     let counts = match chance.below(8) {
         0 => surveys::for_disks(chance, 48, 255),
         1 => surveys::for_disks(chance, 48, 5),
-        _ => surveys::for_disks(chance, 5, 6),
+        _ => surveys::for_disks(chance, 6, 6),
     };
     let disks = disks_in_range(chance, &counts);
     script.open_disks(&counts);
@@ -231,28 +225,23 @@ fn made_up_disks(script: &mut Script, chance: &mut Chance) {
     for _ in 0..chance.between(1, 4) {
         script.step_disks();
     }
-    script.make_disks(&faulty_disks(chance, disks));
-    script.step_disks();
-    script.step_disks();
-}
-
-/// The turns that these counts allow.
-fn turns(counts: &[u8]) -> u64 {
-    if counts[0] % 2 == 1 {
-        2
-    } else {
-        counts[0].into()
+    if chance.once_in(3) {
+        script.lay_open_disks();
     }
+    script.make_disks(&faults::disks(chance, disks));
+    script.step_disks();
+    script.step_disks();
 }
 
 /// The first disks are often on one peg, so that a later one or none is chosen; pegs of odd counts may be anything.
 fn disks_in_range(chance: &mut Chance, counts: &[u8]) -> Disks {
     let mut disks = Disks::open(counts).expect("disks can be put on the survey");
+    let moving = disks.sluices.moving;
     set_notches(chance, &mut disks.sluices);
-    disks.turn = often_the_ends(chance, 0, turns(counts) - 1) as usize;
-    let highest = if counts[0] % 2 == 1 { 255 } else { counts[0] };
-    let (together, peg) = (chance.between(0, counts.len()), chance.byte(0, highest));
-    for x in 0..counts.len() {
+    disks.turn = often_the_ends(chance, 0, faults::turns(&disks) as u64 - 1) as usize;
+    let highest = faults::ring(&disks).unwrap_or(255);
+    let (together, peg) = (chance.between(0, moving), chance.byte(0, highest));
+    for x in 0..moving {
         disks.peg[x] = if x < together {
             peg
         } else {
@@ -262,29 +251,17 @@ fn disks_in_range(chance: &mut Chance, counts: &[u8]) -> Disks {
     if chance.once_in(2) {
         put_on_one_peg(chance, &mut disks.sluices, together);
     }
+    litter_sluices(chance, &mut disks.sluices);
+    litter(chance, &mut disks.peg[moving..]);
     disks
 }
 
-/// The first sluices at their first notch, or at their last: the left and the right peg of odd counts.
+/// The first disks at their first notch, or at their last: the left and the right peg of odd counts.
 fn put_on_one_peg(chance: &mut Chance, sluices: &mut Sluices, together: usize) {
     let right = chance.once_in(2);
-    for x in 0..together {
+    for disk in 1..=together {
+        let x = sluices.sluice(disk) - 1;
         sluices.digit[x] = if right { sluices.radix[x] - 1 } else { 0 };
         sluices.down[x] = right;
     }
-}
-
-/// A state out of range in one thing; with odd counts a high peg is no fault.
-fn faulty_disks(chance: &mut Chance, mut disks: Disks) -> Disks {
-    let n = disks.sluices.n;
-    let m = disks.sluices.radix[0];
-    let x = chance.between(0, n - 1);
-    match chance.below(5) {
-        0 => faulty_sluices(chance, &mut disks.sluices),
-        1 => disks.turn = chance.pick(&[turns(&[m]) as usize, 255]),
-        2 => disks.peg[x] = m.saturating_add(1),
-        3 => disks.sluices.radix[x] = disks.sluices.radix[x].saturating_add(1),
-        _ => disks.sluices.radix[x] = disks.sluices.radix[x].saturating_add(2),
-    }
-    disks
 }

@@ -20,17 +20,29 @@ pub fn compare(g: &mut Group, chance: &mut Chance) {
     }
 }
 
-/// Any bytes, or bytes that are nearly a survey.
+/// Any bytes, or bytes that are nearly a survey: too long, a count of 0 among them, or N over 2^62.
 fn survey_bytes(chance: &mut Chance) -> Vec<u8> {
     let length = chance.between(0, 60);
-    match chance.below(6) {
+    match chance.below(10) {
         0 => chance.bytes(length, 0, 255),
         1 => chance.bytes(length / 6, 0, 255),
         2 => chance.bytes(length, 2, 3),
-        3 => chance.bytes(length / 4, 1, 9),
+        3 => chance.bytes(length / 4, 0, 9),
         4 => chance.bytes(length / 7, 2, 255),
+        5 => chance.bytes(length, 1, 2),
+        6 => chance.bytes(length / 4, 1, 9),
+        7 => vec![1; length],
+        8 => nearly(chance),
         _ => surveys::any(chance),
     }
+}
+
+/// A survey with locked sluices and one count that is 0.
+fn nearly(chance: &mut Chance) -> Vec<u8> {
+    let mut counts = surveys::few_moving(chance);
+    let place = chance.between(0, counts.len() - 1);
+    counts[place] = 0;
+    counts
 }
 
 /// Every writer with numbers and room by chance, the room often one byte short of what is needed.
@@ -94,14 +106,16 @@ fn log_bytes(chance: &mut Chance) -> Vec<u8> {
     }
     let n = chance.byte(0, 4);
     let mut log = vec![1, n, chance.byte(0, 34)];
+    let (lowest, highest) = chance.pick(&[(0, 4), (1, 4), (1, 2), (1, 1)]);
     for number in 1..=n {
-        log.extend([2, number, chance.byte(1, 4)]);
+        log.extend([2, number, chance.byte(lowest, highest)]);
     }
-    for _ in 0..chance.between(0, 8) {
-        log.extend([3, chance.byte(1, 3)]);
+    let most = if highest == 1 { 1 } else { 8 };
+    for _ in 0..chance.between(0, most) {
+        log.extend([3, chance.byte(1, 4)]);
     }
     if chance.once_in(3) {
-        log.extend([4, 0, 0, 0, 0, 0, 0, 0, chance.byte(0, 20)]);
+        log.extend([4, 0, 0, 0, 0, 0, 0, 0, chance.byte(0, 2 * most as u8 + 4)]);
     }
     log
 }
@@ -124,8 +138,8 @@ fn small_log(chance: &mut Chance) -> Vec<u8> {
 
 fn some_log(chance: &mut Chance) -> Vec<u8> {
     let small = surveys::small(chance, 5, 5);
-    let any = surveys::any(chance);
-    let counts = chance.pick(&[small, any]);
+    let (few, any) = (surveys::few_moving(chance), surveys::any(chance));
+    let counts = chance.pick(&[small, few, any]);
     log_of(chance, &counts, 1500)
 }
 

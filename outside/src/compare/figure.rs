@@ -1,4 +1,4 @@
-//! Both lists of document 004, figure 1.
+//! Both lists of document 004, figure 1, and the same with locked sluices among their own.
 //!
 //! The figure prints each list in columns: the first column is read from top to bottom, then the second, and so on; the last
 //! columns are shorter. The rows below are the rows of the figure.
@@ -49,11 +49,26 @@ fn settings(rows: &[&str]) -> Vec<Vec<u8>> {
 }
 
 pub fn compare(g: &mut Group, _: &mut Chance) {
-    figure(g, &[2; 6], &settings(&BINARY));
-    figure(g, &[3; 4], &settings(&TERNARY));
+    for (counts, rows) in [(vec![2; 6], BINARY), (vec![3; 4], TERNARY)] {
+        let (n, settings) = (counts.len(), settings(&rows));
+        let capacity = n.div_ceil(2);
+        figure(g, &counts, capacity, &settings);
+        for place in 0..=n {
+            for locked in [1, 2, 48 - n] {
+                let longer: Vec<Vec<u8>> = settings.iter().map(|setting| put(setting, place, &vec![0; locked])).collect();
+                figure(g, &put(&counts, place, &vec![1; locked]), capacity, &longer);
+            }
+        }
+    }
 }
 
-fn figure(g: &mut Group, counts: &[u8], figure: &[Vec<u8>]) {
+/// Bytes with others put in before the one at a place.
+fn put(bytes: &[u8], place: usize, others: &[u8]) -> Vec<u8> {
+    [&bytes[..place], others, &bytes[place..]].concat()
+}
+
+/// A figure of these counts; the capacity is half of the moving sluices.
+fn figure(g: &mut Group, counts: &[u8], capacity: usize, figure: &[Vec<u8>]) {
     let size = figure.len() as u64;
     both::size(g, counts).is(g, || format!("length of the figure for {counts:?}"), Ok(size));
     g.same(
@@ -69,6 +84,6 @@ fn figure(g: &mut Group, counts: &[u8], figure: &[Vec<u8>]) {
         both::word_is(g, counts, rank, setting.len(), Ok(setting));
     }
     let moves = survey::moves_along(figure);
-    both::moves_are(g, counts, counts.len().div_ceil(2), moves.len() + 1, Ok(&moves));
+    both::moves_are(g, counts, capacity, moves.len() + 1, Ok(&moves));
     both::towers_are(g, counts, moves.len() + 1, Ok(&moves));
 }

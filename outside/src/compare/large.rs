@@ -14,6 +14,7 @@ pub fn compare(g: &mut Group, chance: &mut Chance) {
             surveys::just_below(chance),
             surveys::exact(chance),
             surveys::any(chance),
+            surveys::few_moving(chance),
             surveys::for_disks(chance, 48, 255),
             surveys::for_disks(chance, 48, 5),
         ];
@@ -39,7 +40,7 @@ fn accepted(g: &mut Group, chance: &mut Chance, counts: &[u8]) {
 
 /// Ranks at the start, at the end and at places by chance.
 fn ranks(chance: &mut Chance, size: u64) -> Vec<u64> {
-    let mut ranks = vec![0, 1, size / 2, size - 2, size - 1];
+    let mut ranks = vec![0, 1.min(size - 1), size / 2, size.saturating_sub(2), size - 1];
     ranks.extend((0..10).map(|_| chance.below(size)));
     ranks
 }

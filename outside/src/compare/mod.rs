@@ -1,14 +1,18 @@
 //! Comparisons of the second implementation with the proved one, in groups.
 //!
-//! "Ours" is the second implementation (or a number that document 01 names), "theirs" the proved library or program.
+//! "Ours" is the second implementation (or a number that document 01 or 02 names), "theirs" the proved library or program. Each
+//! group has surveys with locked sluices too.
 mod both;
 mod bounds;
 mod cases;
 mod damage;
+mod faults;
 mod figure;
 mod large;
+mod locked;
 mod process;
 mod program;
+mod ranges;
 mod script;
 mod small;
 mod surveys;

@@ -9,7 +9,7 @@ const MILLION: usize = 1_000_000;
 pub fn compare(g: &mut Group, chance: &mut Chance) {
     let (script, program) = (in_repository("bin/walk"), in_repository("target/bin/walk"));
     // The script comes first: it makes the program where that is missing or old.
-    for line in [&b"2 3\n"[..], b"\n", b"2 3", b"17 241\n", b"4 0\n"] {
+    for line in [&b"2 3\n"[..], b"\n", b"2 3", b"17 241\n", b"4 0\n", b"1\n", b"3 1 3\n"] {
         print(g, &script, line);
     }
     for line in named_lines() {
@@ -44,6 +44,26 @@ fn named_lines() -> Vec<Vec<u8>> {
         "1\n",
         "0\n",
         "2 1\n",
+        "1 2\n",
+        "1 1\n",
+        "1 2 1\n",
+        "2 1 2\n",
+        "3 1 3\n",
+        "1 0\n",
+        "0 1\n",
+        "1 1 0 1\n",
+        "2 1 0\n",
+        "1 \n",
+        " 1\n",
+        "1",
+        "01\n",
+        "001\n",
+        "0001\n",
+        "1 001 01\n",
+        "1 255\n",
+        "255 1\n",
+        "1 256\n",
+        "1\n1\n",
         "255\n",
         "256\n",
         "300\n",
@@ -86,7 +106,10 @@ fn named_lines() -> Vec<Vec<u8>> {
         "4 4 4 4 4 4\n",
         "2 2 2 2 2 2 2 2 2 2 2 2\n",
         "8 8 64\n",
+        "1 64 1 64 1\n",
         "17 241\n",
+        "17 1 241\n",
+        "1 1 17 241\n",
         "2 2 2 2 2 2 2 2 2 2 2 2 2\n",
         "65 63\n",
         "16 255\n",
@@ -94,16 +117,26 @@ fn named_lines() -> Vec<Vec<u8>> {
         "255 255 255 255 255 255 255\n",
         "255 255 255 255 255 255 255 255\n",
         "255 255 255 255 255 255 255 1\n",
+        "255 255 255 255 255 255 255 0\n",
+        "255 255 255 255 1 255 255 255 255\n",
         "255 255 255 255 255 255 255 255 0\n",
+        "255 255 255 255 255 255 255 255 1 0\n",
         "255 255 255 255 255 255 255 255 256\n",
     ];
     let mut lines: Vec<Vec<u8>> = texts.iter().map(|text| text.as_bytes().to_vec()).collect();
     for n in [47, 48, 49, 50, 60, 255, 256, 257, 1000] {
         lines.push(line_of(&vec![2; n]));
         lines.push(line_of(&vec![1; n]));
+        lines.push(line_of(&[vec![0], vec![1; n - 1]].concat()));
+        lines.push(line_of(&[vec![3], vec![1; n - 2], vec![4]].concat()));
     }
     lines.push(line_of(&[4; 31]));
+    lines.push(line_of(&[vec![1; 17], vec![4; 31]].concat()));
     lines.push(line_of(&surveys::SMALLEST_OVER));
+    lines.push(line_of(&[&surveys::SMALLEST_OVER[..], &[1; 38]].concat()));
+    // The longest lines that are printed, as many as there can be.
+    lines.push(line_of(&[[1, 2, 1, 1]; 12].concat()));
+    lines.push(line_of(&[vec![16], vec![1; 46], vec![255]].concat()));
     lines.push(vec![0xff, b'\n']);
     lines.extend(long_lines());
     lines
@@ -146,7 +179,8 @@ fn good_line(chance: &mut Chance) -> String {
         1 => surveys::over(chance),
         2 => surveys::small(chance, 2, 100),
         3 => surveys::small(chance, 6, 5),
-        _ => surveys::small(chance, 4, 4),
+        4 => surveys::few_moving(chance),
+        _ => surveys::small(chance, 5, 4),
     };
     text_of(&counts, |m| if chance.once_in(9) { format!("{m:03}") } else { m.to_string() })
 }
@@ -169,7 +203,7 @@ fn faulty_line(chance: &mut Chance, line: String) -> Vec<u8> {
 /// Bytes that are often digits and spaces.
 fn any_line(chance: &mut Chance) -> Vec<u8> {
     let length = chance.between(0, 12);
-    let often: &[u8] = b"0122345 \n";
+    let often: &[u8] = b"01122345 \n";
     let seldom: &[u8] = b"6789 \t\r\n+-x";
     (0..length)
         .map(|_| {

@@ -132,9 +132,27 @@ impl Script {
         self.change_all("disks peg", &now.peg, &wanted.peg);
     }
 
+    /// A step that is refused as n and the moving sluices are over 48: it prints all places of the arrays, also those that do
+    /// not count and must be as they came.
+    pub fn lay_open_walk(&mut self) {
+        let mut walk = self.walk.clone();
+        (walk.sluices.n, walk.sluices.moving) = (255, 255);
+        self.make_walk(&walk);
+        self.step_walk();
+    }
+
+    pub fn lay_open_disks(&mut self) {
+        let mut disks = self.disks.clone();
+        (disks.sluices.n, disks.sluices.moving) = (255, 255);
+        self.make_disks(&disks);
+        self.step_disks();
+    }
+
     fn make_sluices(&mut self, engine: &str, now: &Sluices, wanted: &Sluices) {
         self.change(&format!("{engine} n"), now.n, wanted.n);
         self.change_all(&format!("{engine} radix"), &now.radix, &wanted.radix);
+        self.change(&format!("{engine} moving"), now.moving, wanted.moving);
+        self.change_all(&format!("{engine} number"), &now.number, &wanted.number);
         self.change_all(&format!("{engine} digit"), &now.digit, &wanted.digit);
         self.change_all(&format!("{engine} down"), &now.down.map(u8::from), &wanted.down.map(u8::from));
     }
@@ -175,12 +193,19 @@ fn in_order(name: &str, values: &[u8]) -> String {
     format!("{name}{values}")
 }
 
+/// How many places of the arrays there are for the moving sluices, if there are as many as the state says.
+fn moving_places(sluices: &Sluices) -> usize {
+    sluices.moving.min(MOST_SLUICES)
+}
+
 /// As many places of the arrays as n says, if there are so many.
 fn sluices_text(sluices: &Sluices) -> String {
     let n = sluices.n.min(MOST_SLUICES);
     [
         format!("n {}", sluices.n),
         highest_first("radix", &sluices.radix[..n]),
+        format!("moving {}", sluices.moving),
+        in_order("number", &sluices.number[..moving_places(sluices)]),
         highest_first("digit", &sluices.digit[..n]),
         highest_first("down", &sluices.down.map(u8::from)[..n]),
     ]
@@ -191,7 +216,7 @@ fn walk_text(walk: &Walk) -> String {
     [
         sluices_text(&walk.sluices),
         format!("capacity {}", walk.capacity),
-        highest_first("counter", &walk.counter[..walk.sluices.n.min(MOST_SLUICES) + 1]),
+        highest_first("counter", &walk.counter[..moving_places(&walk.sluices) + 1]),
         format!("place {}", walk.place),
         format!("queued {}", walk.queued),
         in_order("entry", &walk.entry[..walk.queued.min(MOST_CAPACITY)]),
@@ -206,7 +231,7 @@ fn disks_text(disks: &Disks) -> String {
     [
         sluices_text(&disks.sluices),
         format!("turn {}", disks.turn),
-        highest_first("peg", &disks.peg[..disks.sluices.n.min(MOST_SLUICES)]),
+        highest_first("peg", &disks.peg[..moving_places(&disks.sluices)]),
     ]
     .join("; ")
 }

@@ -1,4 +1,4 @@
-//! Every survey of at most 5 sluices, counts 2 to 5 and at most 1,000 settings, held to the list as it is defined.
+//! Every survey of at most 5 sluices, counts 1 to 5 and at most 1,000 settings, held to the list as it is defined.
 use super::{both, Group};
 use crate::capi;
 use crate::chance::Chance;
@@ -26,6 +26,11 @@ impl Known {
         self.list.len() as u64
     }
 
+    /// Room for a move too many, as a walk may be wrong by not ending.
+    fn one_more(&self) -> usize {
+        self.moves.len() + 1
+    }
+
     fn log(&self, capacity: usize, t: u64) -> Vec<u8> {
         log::compose(&self.counts, self.size(), capacity as u8, &self.moves[..t as usize])
     }
@@ -50,7 +55,7 @@ fn surveys() -> Vec<Vec<u8>> {
     for _ in 0..MOST_SLUICES {
         shorter = shorter
             .iter()
-            .flat_map(|counts: &Vec<u8>| (2..=5).map(|m| [&counts[..], &[m]].concat()))
+            .flat_map(|counts: &Vec<u8>| (1..=5).map(|m| [&counts[..], &[m]].concat()))
             .collect();
         all.extend(
             shorter
@@ -106,14 +111,16 @@ fn rooms(chance: &mut Chance, known: &Known) -> [usize; 4] {
     [last, last + 4, chance.between(0, last), 0]
 }
 
-/// Every capacity, and so walks that run dry: they write as many moves as ours makes, all of them the list's.
+/// Every capacity, and so walks that run dry: they write as many moves as ours makes, all of them the list's. None runs dry if
+/// the capacity is half of the moving sluices or more.
 fn buffered_moves(g: &mut Group, chance: &mut Chance, known: &Known) {
     let counts = &known.counts;
+    let moving = counts.iter().filter(|&&m| m > 1).count();
     for capacity in CAPACITIES {
-        let made = buffered::moves(counts, capacity, usize::MAX).expect("the survey can be opened");
-        let least = if 2 * capacity >= counts.len() { known.moves.len() } else { 0 };
+        let made = buffered::moves(counts, capacity, known.one_more()).expect("the survey can be opened");
+        let least = if 2 * capacity >= moving { known.moves.len() } else { 0 };
         let name = || format!("our buffered moves of {counts:?}, capacity {capacity}");
-        g.same(name, &known.moves[..made.len().max(least)], &made[..]);
+        g.same(name, &known.moves[..made.len().clamp(least, known.moves.len())], &made[..]);
         for room in rooms(chance, known) {
             both::moves_are(g, counts, capacity, room, Ok(&made[..room.min(made.len())]));
         }
@@ -122,7 +129,7 @@ fn buffered_moves(g: &mut Group, chance: &mut Chance, known: &Known) {
 
 /// The disk engine's moves, or refusal 6.
 fn disk_moves(g: &mut Group, chance: &mut Chance, known: &Known) {
-    if let Ok(made) = disks::moves(&known.counts, usize::MAX) {
+    if let Ok(made) = disks::moves(&known.counts, known.one_more()) {
         g.same(|| format!("our disk moves of {:?}", known.counts), &known.moves, &made);
     }
     for room in rooms(chance, known) {

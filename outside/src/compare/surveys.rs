@@ -1,6 +1,6 @@
-//! Surveys by chance, large and small. All can be opened but those of `over`.
+//! Surveys by chance, large and small, with locked sluices in about half of them. All can be opened but those of `over`.
 use crate::chance::Chance;
-use crate::second::survey;
+use crate::second::survey::{self, MOST_SLUICES};
 
 /// The most settings.
 const LIMIT: u64 = 1 << 62;
@@ -8,15 +8,42 @@ const LIMIT: u64 = 1 << 62;
 /// The smallest product over 2^62 that counts up to 255 can make: 2^62 + 1,243,840.
 pub const SMALLEST_OVER: [u8; 10] = [64, 49, 31, 43, 53, 97, 103, 103, 113, 179];
 
+/// Locked sluices among these, which move: none, or some, or as many as bring n up to `most`.
+fn with_locked(chance: &mut Chance, mut counts: Vec<u8>, most: usize) -> Vec<u8> {
+    let room = most - counts.len();
+    let some = chance.between(0, room);
+    for _ in 0..chance.pick(&[0, 0, some, room]) {
+        counts.insert(chance.between(0, counts.len()), 1);
+    }
+    counts
+}
+
+/// The same, but once in a while all are locked.
+fn mixed(chance: &mut Chance, counts: Vec<u8>, most: usize) -> Vec<u8> {
+    let mut counts = with_locked(chance, counts, most);
+    if chance.once_in(15) {
+        counts.fill(1);
+    }
+    counts
+}
+
 /// Up to `most` sluices, counts up to `highest`.
 pub fn small(chance: &mut Chance, most: usize, highest: u8) -> Vec<u8> {
-    let n = chance.between(1, most);
-    chance.bytes(n, 2, highest)
+    let moving = chance.between(1, most);
+    let counts = chance.bytes(moving, 2, highest);
+    mixed(chance, counts, most)
+}
+
+/// Up to 5 sluices that move, and up to 48 in all.
+pub fn few_moving(chance: &mut Chance) -> Vec<u8> {
+    let moving = chance.between(1, 5);
+    let counts = chance.bytes(moving, 2, 9);
+    mixed(chance, counts, MOST_SLUICES)
 }
 
 /// Any length up to 48; counts as high as the sluices that are still to come leave room for, or lower.
 pub fn any(chance: &mut Chance) -> Vec<u8> {
-    let n = chance.between(1, 48);
+    let n = chance.between(1, MOST_SLUICES);
     let mut room = LIMIT;
     let mut counts: Vec<u8> = (1..=n)
         .map(|i| {
@@ -31,7 +58,7 @@ pub fn any(chance: &mut Chance) -> Vec<u8> {
         })
         .collect();
     chance.shuffle(&mut counts);
-    counts
+    mixed(chance, counts, MOST_SLUICES)
 }
 
 /// Counts up to `highest` until one more can fill up the product; that one is `last` of what is left to be filled.
@@ -57,7 +84,7 @@ pub fn just_below(chance: &mut Chance) -> Vec<u8> {
     let highest = chance.pick(&[3, 4, 6, 20, 255]);
     let counts = filled(chance, highest, |room| room);
     if survey::size(&counts).is_ok() {
-        counts
+        with_locked(chance, counts, MOST_SLUICES)
     } else {
         exact(chance)
     }
@@ -71,7 +98,7 @@ pub fn over(chance: &mut Chance) -> Vec<u8> {
         counts = SMALLEST_OVER.to_vec();
         chance.shuffle(&mut counts);
     }
-    counts
+    with_locked(chance, counts, MOST_SLUICES)
 }
 
 /// N = 2^62 itself: powers of 2.
@@ -85,10 +112,11 @@ pub fn exact(chance: &mut Chance) -> Vec<u8> {
             missing -= 1;
         }
     }
-    powers.iter().map(|power| 1 << power).collect()
+    let counts = powers.iter().map(|power| 1 << power).collect();
+    with_locked(chance, counts, MOST_SLUICES)
 }
 
-/// Counts that the disk engine takes: all odd, or all even and equal.
+/// Counts that the disk engine takes: the moving ones all odd, or all even and equal.
 pub fn for_disks(chance: &mut Chance, most: usize, highest: u8) -> Vec<u8> {
     let n = chance.between(1, most);
     let even = 2 * chance.byte(1, highest / 2);
@@ -106,5 +134,5 @@ pub fn for_disks(chance: &mut Chance, most: usize, highest: u8) -> Vec<u8> {
             break;
         }
     }
-    counts
+    mixed(chance, counts, most)
 }

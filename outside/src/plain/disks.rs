@@ -1,130 +1,144 @@
 //! The disk engine on a state by reference: call by call, each with the range rule, and as one run that tests it once.
-use super::engine::{advance, digits_in_range, put_moves, reversed, size_in_state, Step};
-use super::words::{counted, MOST_DIGITS};
+use super::engine::{all, put_moves, Digits, Step, INDICES};
+use super::words::MOST_DIGITS;
 use crate::capi::Answer;
 
-/// The state. For odd radices the turn is the pair of pegs, and pegs follow from digits; for even ones it counts disk 1's sweep.
+/// The state. For odd radices the turn is the pair of pegs, and pegs follow from digits; for even ones it counts disk 1's
+/// sweep. The disks are the digits that move, and each has a peg.
 pub struct Disks {
-    radices: [u8; MOST_DIGITS],
-    n: usize,
-    word: [u8; MOST_DIGITS],
-    downs: [bool; MOST_DIGITS],
+    digits: Digits,
     pegs: [u8; MOST_DIGITS],
     turn: u8,
 }
 
-/// Whether the game is played with these radices, of which there is one at least. Looked at without a way out in between.
+/// The radix of disk 1, or 1 where there is no disk.
 #[inline]
-fn playable(radices: &[u8]) -> bool {
-    let first = radices[0];
+fn first_radix(digits: &Digits) -> u8 {
+    if digits.moving.count == 0 {
+        1
+    } else {
+        digits.radices[digits.at_place(0)]
+    }
+}
+
+/// Whether the game is played with these radices, of which the first disk's is given. A locked digit's is 1, so odd, and equal
+/// to any. Looked at without a way out in between.
+#[inline]
+fn playable(radices: &[u8; MOST_DIGITS], first: u8) -> bool {
     let odd = radices.iter().fold(true, |ok, &m| ok & (m % 2 == 1));
-    let equal = radices.iter().fold(true, |ok, &m| ok & (m == first));
+    let equal = radices.iter().fold(true, |ok, &m| ok & ((m == first) | (m == 1)));
     odd | (equal & (first % 2 == 0))
 }
 
 impl Disks {
     /// Refusals 2, 3, 4 and 6.
     pub fn open(radices: &[u8]) -> Result<Disks, u8> {
-        counted(radices)?;
-        if !playable(radices) {
+        let digits = Digits::open(radices)?;
+        if !playable(&digits.radices, first_radix(&digits)) {
             return Err(6);
         }
-        let radices_of_state = reversed(radices);
-        let zeros = [0; MOST_DIGITS];
-        let downs = [false; MOST_DIGITS];
         Ok(Disks {
-            radices: radices_of_state,
-            n: radices.len(),
-            word: zeros,
-            downs,
-            pegs: zeros,
+            digits,
+            pegs: [0; MOST_DIGITS],
             turn: 0,
         })
     }
 
+    /// The range rule: the radix of disk 1 where all is in range. The word comes last: the call before has just stored in it,
+    /// and vectors of it have to wait for that.
     #[inline]
-    fn odd(&self) -> bool {
-        self.radices[0] % 2 == 1
+    fn radix_in_range(&self) -> Option<u8> {
+        self.digits.size_in_range()?;
+        let m = first_radix(&self.digits);
+        let turned = if m % 2 == 1 {
+            self.turn < 2
+        } else {
+            self.turn < m && self.pegs_in_range(m)
+        };
+        let ok = turned && playable(&self.digits.radices, m) && self.digits.word_in_range();
+        ok.then_some(m)
     }
 
-    /// The range rule.
     #[inline]
-    fn in_range(&self) -> bool {
-        let n = self.n;
-        if n > MOST_DIGITS || size_in_state(&self.radices[..n]).is_none() || !playable(&self.radices[..n]) {
-            return false;
-        }
-        let m = self.radices[0];
-        let digits = digits_in_range(&self.radices[..n], &self.word[..n], &self.downs[..n]);
-        if self.odd() {
-            return digits & (self.turn < 2);
-        }
-        digits & (self.turn < m) & self.pegs[..n].iter().fold(true, |ok, &peg| ok & (peg <= m))
+    fn pegs_in_range(&self, m: u8) -> bool {
+        let disks = self.digits.moving.count as u8;
+        all(|i| (self.pegs[i] <= m) | (INDICES[i] >= disks))
     }
 
-    /// The index of the disk that moves, where one can: the smallest on the pair of pegs, or disk 1 and then the smallest
-    /// elsewhere. The search goes by indices: made from iterators over the arrays it runs on vectors where there are 32 disks or
-    /// more, has to wait for the byte that the call before has stored, and takes several times as long.
-    #[inline]
-    fn chosen(&self) -> Option<usize> {
-        if self.odd() {
-            return (0..self.n).find(|&i| self.on_pair(i));
+    /// What a call does with a state in range, given the radix of disk 1.
+    #[inline(always)]
+    fn call(&mut self, m: u8) -> Step {
+        let i = if m % 2 == 1 {
+            self.move_on_pair()
+        } else {
+            self.move_on_ring(m)
+        };
+        match i {
+            Some(i) => Step::Moved(self.digits.advance(i)),
+            None => Step::End,
         }
-        if self.turn < self.radices[0] - 1 {
-            return Some(0);
-        }
-        (1..self.n).find(|&i| self.pegs[i] != self.pegs[0])
     }
 
-    /// Odd radices: the left pair has no disk at its last notch, the right one none at notch 0.
+    /// Odd radices: the index of the digit of the smallest disk on the pair, where there is one; then it is the other pair's
+    /// turn. The search goes by indices, as does the next one: made from iterators over the arrays they run on vectors where
+    /// there are 32 disks or more, have to wait for the byte that the call before has stored, and take several times as long.
+    #[inline]
+    fn move_on_pair(&mut self) -> Option<usize> {
+        let i = (0..self.digits.n).find(|&i| self.on_pair(i))?;
+        self.turn = 1 - self.turn;
+        Some(i)
+    }
+
+    /// Odd radices: the left pair has no disk at its last notch, the right one none at notch 0. A locked digit is at both, so
+    /// it is passed over.
     #[inline]
     fn on_pair(&self, i: usize) -> bool {
-        let absent = if self.turn == 0 { self.radices[i] - 1 } else { 0 };
-        self.word[i] != absent
+        let absent = if self.turn == 0 { self.digits.radices[i] - 1 } else { 0 };
+        self.digits.word[i] != absent
     }
 
-    /// What a call does with a state in range.
-    #[inline(always)]
-    fn call(&mut self) -> Step {
-        let Some(i) = self.chosen() else { return Step::End };
-        if self.odd() {
-            self.turn = 1 - self.turn;
-        } else {
-            self.turn_ring(i);
-        }
-        Step::Moved(advance(i, self.radices[i], &mut self.word[i], &mut self.downs[i]))
-    }
-
-    /// Even radices: the disk goes one peg on, odd disks clockwise and even ones the other way, and the sweep goes on.
+    /// Even radices: the index of the digit whose disk moves, where one can: disk 1, and after its sweep the smallest that is
+    /// on another peg. The disk goes one peg on, odd ones clockwise and even ones the other way.
     #[inline]
-    fn turn_ring(&mut self, i: usize) {
-        let m = self.radices[0];
-        let peg = self.pegs[i];
-        self.pegs[i] = match (i % 2 == 0, peg) {
+    fn move_on_ring(&mut self, m: u8) -> Option<usize> {
+        let sweeps = self.turn < m - 1;
+        let disk = if sweeps { 0 } else { self.smallest_elsewhere()? };
+        let peg = self.pegs[disk];
+        self.pegs[disk] = match (disk % 2 == 0, peg) {
             (true, peg) if peg == m => 0,
             (true, peg) => peg + 1,
             (false, 0) => m,
             (false, peg) => peg - 1,
         };
-        self.turn = if self.turn < m - 1 { self.turn + 1 } else { 0 };
+        self.turn = if sweeps { self.turn + 1 } else { 0 };
+        Some(self.digits.at_place(disk))
+    }
+
+    #[inline]
+    fn smallest_elsewhere(&self) -> Option<usize> {
+        (1..self.digits.moving.count).find(|&disk| self.pegs[disk] != self.pegs[0])
     }
 
     /// One call.
     #[inline(never)]
     pub fn step(&mut self) -> Step {
-        if !self.in_range() {
-            return Step::Refused(7);
+        match self.radix_in_range() {
+            Some(m) => self.call(m),
+            None => Step::Refused(7),
         }
-        self.call()
+    }
+
+    /// For tests of the range rule.
+    #[cfg(test)]
+    pub fn digits(&mut self) -> &mut Digits {
+        &mut self.digits
     }
 
     /// As many calls as `out` has bytes, until one does not move; the range rule is tested before the first alone.
     #[inline(never)]
     pub fn run(&mut self, out: &mut [u8]) -> Answer {
-        if !self.in_range() {
-            return Err(7);
-        }
-        Ok(put_moves(out, || self.call()))
+        let m = self.radix_in_range().ok_or(7)?;
+        Ok(put_moves(out, || self.call(m)))
     }
 }
 

@@ -2,27 +2,31 @@
 use super::words::{counted, put_word, MOST_DIGITS};
 use crate::capi::Answer;
 
-/// The focus pointers, and whether each digit goes down. Digit 1 has index 0; index n stands for the end.
+/// The focus pointers of the digits that move, numbered from 0 among these, the fastest first; past the last one stands the
+/// end. Of each also its place in a word, and whether it goes down.
 struct Focus {
     pointers: [usize; MOST_DIGITS + 1],
+    places: [usize; MOST_DIGITS],
     downs: [bool; MOST_DIGITS],
 }
 
 impl Focus {
-    /// As it is at a rank. A digit at the end of its sweep has turned already and rests until a slower one moves; the first of a
-    /// block of resting digits points past the block, every other digit to itself.
+    /// As it is at a rank. A digit at the end of its sweep has turned already and rests until a slower one moves; the first of
+    /// a block of resting digits points past the block, every other digit to itself.
     fn at(radices: &[u8], rank: u64) -> Focus {
-        let n = radices.len();
         let mut focus = Focus {
             pointers: std::array::from_fn(|i| i),
+            places: [0; MOST_DIGITS],
             downs: [false; MOST_DIGITS],
         };
         let mut slower = rank;
         let mut block = 0;
-        for i in 0..n {
-            let m = u64::from(radices[n - 1 - i]);
+        let moving = radices.iter().enumerate().rev().filter(|(_, &m)| m > 1);
+        for (i, (place, &m)) in moving.enumerate() {
+            let m = u64::from(m);
             let rests = slower % m == m - 1;
             slower /= m;
+            focus.places[i] = place;
             focus.downs[i] = (slower % 2 == 1) != rests;
             if rests {
                 focus.pointers[block] = i + 1;
@@ -33,7 +37,7 @@ impl Focus {
         focus
     }
 
-    /// The index of the digit that moves next.
+    /// The number of the digit that moves next.
     #[inline]
     fn next(&mut self) -> usize {
         let i = self.pointers[0];
@@ -41,7 +45,7 @@ impl Focus {
         i
     }
 
-    /// The digit of that index has come to either end: it turns, and rests.
+    /// The digit of that number has come to either end: it turns, and rests.
     #[inline]
     fn rest(&mut self, i: usize) {
         self.downs[i] = !self.downs[i];
@@ -78,7 +82,7 @@ fn put_words(radices: &[u8], from: u64, out: &mut [u8]) {
         let (next, after) = rest.split_at_mut(n);
         next.copy_from_slice(word);
         let i = focus.next();
-        let place = n - 1 - i;
+        let place = focus.places[i];
         let digit = if focus.downs[i] { next[place] - 1 } else { next[place] + 1 };
         next[place] = digit;
         if digit == 0 || digit == radices[place] - 1 {

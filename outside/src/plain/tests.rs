@@ -1,13 +1,28 @@
 //! The plain calls answer what the library answers, refusals too.
+use super::engine::{Digits, Step};
 use super::{disks, list, log, walk, words};
 use crate::capi::{self, Answer};
 use crate::chance::Chance;
 
-/// Surveys short enough to be walked, some of them faulty.
+/// Surveys short enough to be walked, some of them faulty, half of them with locked digits, some with no others.
 fn survey(chance: &mut Chance) -> Vec<u8> {
     let n = chance.pick(&[0, 1, 2, 3, 4, 5, 6, 20, 48, 49]);
-    let (low, high) = chance.pick(&[(0, 255), (2, 2), (2, 4), (3, 3), (2, 255), (4, 4)]);
-    chance.bytes(n, low, high)
+    let (low, high) = chance.pick(&[(0, 255), (2, 2), (2, 4), (3, 3), (2, 255), (4, 4), (1, 1), (0, 3), (1, 3)]);
+    let mut radices = chance.bytes(n, low, high);
+    if chance.once_in(8) {
+        radices.iter_mut().for_each(|m| *m |= 1);
+    }
+    if chance.once_in(2) {
+        let times = chance.pick(&[2, 4, 12]);
+        radices.iter_mut().filter(|_| chance.once_in(times)).for_each(|m| *m = 1);
+    }
+    radices
+}
+
+/// The least capacity that never runs dry.
+fn enough(radices: &[u8]) -> usize {
+    let moving = radices.iter().filter(|&&m| m > 1).count();
+    moving.div_ceil(2).max(1)
 }
 
 /// Both calls on memory that holds the same bytes: the same answers and bytes.
@@ -15,6 +30,20 @@ fn alike(room: usize, ours: impl Fn(&mut [u8]) -> Answer, plain: impl Fn(&mut [u
     let (mut a, mut b) = (vec![0xaa; room], vec![0xaa; room]);
     assert_eq!((ours(&mut a), &a), (plain(&mut b), &b));
     a
+}
+
+/// Each of the two forms of either engine against the library's.
+fn engines_alike(radices: &[u8], capacity: usize, room: usize) {
+    for plain in [walk::moves, walk::run] {
+        alike(
+            room,
+            |out| capi::moves(radices, capacity, out),
+            |out| plain(radices, capacity, out),
+        );
+    }
+    for plain in [disks::moves, disks::run] {
+        alike(room, |out| capi::towers(radices, out), |out| plain(radices, out));
+    }
 }
 
 #[test]
@@ -57,22 +86,30 @@ fn lists_are_alike() {
 #[test]
 fn engines_are_alike() {
     let mut chance = Chance::new(3);
-    for _ in 0..1_500 {
+    for _ in 0..2_500 {
         let radices = survey(&mut chance);
         let room = chance.between(0, 1_500);
-        let half = radices.len().div_ceil(2);
-        let capacity = (half + chance.between(0, 2)).saturating_sub(1) + 40 * usize::from(chance.once_in(20));
-        for plain in [walk::moves, walk::run] {
-            alike(
-                room,
-                |out| capi::moves(&radices, capacity, out),
-                |out| plain(&radices, capacity, out),
-            );
-        }
-        for plain in [disks::moves, disks::run] {
-            alike(room, |out| capi::towers(&radices, out), |out| plain(&radices, out));
+        let capacity = enough(&radices) + chance.between(0, 2) - 1 + 40 * usize::from(chance.once_in(20));
+        engines_alike(&radices, capacity, room);
+    }
+}
+
+/// A call that finds the queue empty leaves the state as it was: the next one does too.
+#[test]
+fn dry_walks_stay_dry() {
+    let mut chance = Chance::new(6);
+    let mut dry = 0;
+    for _ in 0..2_000 {
+        let radices = survey(&mut chance);
+        let Ok(mut walk) = walk::Walk::open(&radices, 1) else {
+            continue;
+        };
+        if (0..1_000).any(|_| matches!(walk.step(), Step::Refused(_))) {
+            assert!((0..3).all(|_| matches!(walk.step(), Step::Refused(10))), "{radices:?}");
+            dry += 1;
         }
     }
+    assert!(dry > 200);
 }
 
 #[test]
@@ -94,4 +131,164 @@ fn logs_are_alike() {
         }
         assert_eq!(capi::log_read(&bytes), log::read(&bytes), "{bytes:?}");
     }
+}
+
+/// Of every length at any capacity: one setting, no move, and a log that is whole with none.
+#[test]
+fn all_locked() {
+    for n in 1..=48 {
+        let radices = vec![1; n];
+        assert_eq!((words::size(&radices), words::rank(&radices, &vec![0; n])), (Ok(1), Ok(0)));
+        alike(
+            n + 1,
+            |out| capi::list(&radices, 0, 1, out),
+            |out| list::list(&radices, 0, 1, out),
+        );
+        assert!(!refused(&radices, 2, |_| ()) && refused(&radices, 0, |digits| digits.n = 0));
+        for capacity in [1, 2, 32] {
+            engines_alike(&radices, capacity, 3);
+            assert_eq!(walk::moves(&radices, capacity, &mut [0; 3]), Ok(0));
+            let room = 3 + 3 * n + 9;
+            let ours = |out: &mut [u8]| capi::log_write(&radices, capacity, 0, out);
+            let log = alike(room, ours, |out| log::write(&radices, capacity, 0, out));
+            assert_eq!((capi::log_read(&log), log::read(&log)), (Ok(0), Ok(0)));
+            let cut = &log[..room - 9];
+            assert_eq!((capi::log_read(cut), log::read(cut)), (Err(11), Err(11)));
+        }
+    }
+}
+
+/// The ends of what refusals 2 to 6 leave, with the answers as the papers have them.
+#[test]
+fn refused_at_the_bounds() {
+    let mut largest = [2; 48];
+    largest[..14].fill(4);
+    let sizes: [(&[u8], Answer); 10] = [
+        (&[], Err(2)),
+        (&[1; 48], Ok(1)),
+        (&[1; 49], Err(2)),
+        (&[0; 49], Err(2)),
+        (&[0], Err(3)),
+        (&[1], Ok(1)),
+        (&[1, 0, 255], Err(3)),
+        (&[255, 1, 2], Ok(510)),
+        (&largest, Ok(1 << 62)),
+        (&[64, 49, 31, 43, 1, 53, 97, 103, 103, 113, 179], Err(4)),
+    ];
+    for (radices, size) in sizes {
+        assert_eq!((capi::size(radices), words::size(radices)), (size, size), "{radices:?}");
+        for capacity in [0, 1, 32, 33] {
+            engines_alike(radices, capacity, 100);
+            let opened = if capacity % 33 == 0 { size.and(Err(5)) } else { size };
+            assert_eq!(walk::Walk::open(radices, capacity).err(), opened.err(), "{radices:?}");
+        }
+    }
+    let games: [(&[u8], Option<u8>); 6] = [
+        (&[2, 1, 4], Some(6)),
+        (&[2, 1, 3], Some(6)),
+        (&[4, 1, 4], None),
+        (&[1, 2], None),
+        (&[3, 1, 5], None),
+        (&[1, 1], None),
+    ];
+    for (radices, refusal) in games {
+        assert_eq!(disks::Disks::open(radices).err(), refusal, "{radices:?}");
+        engines_alike(radices, 2, 100);
+    }
+}
+
+/// A change by which a state leaves its range, given the index of a digit.
+type Spoiling = fn(&mut Digits, usize);
+
+/// Of a survey in which two digits move at the least, whatever the digit; of a digit that moves; of one that is locked.
+const OF_ANY: [Spoiling; 8] = [
+    |digits, _| digits.n = 0,
+    |digits, _| digits.n = 49,
+    |digits, _| digits.moving.count += 1,
+    |digits, _| digits.moving.count -= 1,
+    |digits, _| digits.moving.indices[0] ^= 1,
+    |digits, _| digits.moving.indices[1] = digits.moving.indices[0],
+    |digits, _| digits.moving.indices.swap(0, 1),
+    // The last that moves, left behind past digit n.
+    |digits, _| {
+        digits.moving.count -= 1;
+        digits.n = digits.at_place(digits.moving.count);
+    },
+];
+const OF_MOVING: [Spoiling; 6] = [
+    |digits, moving| digits.n = moving,
+    |digits, moving| digits.radices[moving] = 0,
+    |digits, moving| digits.radices[moving] = 1,
+    |digits, moving| digits.word[moving] = digits.radices[moving],
+    |digits, moving| (digits.word[moving], digits.downs[moving]) = (0, true),
+    |digits, moving| (digits.word[moving], digits.downs[moving]) = (digits.radices[moving] - 1, false),
+];
+const OF_LOCKED: [Spoiling; 5] = [
+    |digits, locked| digits.moving.indices[1] = locked as u8,
+    |digits, locked| digits.radices[locked] = 0,
+    |digits, locked| digits.radices[locked] = 3,
+    |digits, locked| digits.word[locked] = 1,
+    |digits, locked| digits.downs[locked] = true,
+];
+
+/// Whether both engines refuse their states, changed after some moves; panics where one alone does.
+fn refused(radices: &[u8], moves: usize, change: impl Fn(&mut Digits)) -> bool {
+    let mut walk = walk::Walk::open(radices, enough(radices)).expect("a survey that is accepted");
+    let mut disks = disks::Disks::open(radices).expect("a survey that is accepted");
+    for _ in 0..moves {
+        assert!(!matches!(walk.step(), Step::Refused(_)) && !matches!(disks.step(), Step::Refused(_)));
+    }
+    change(walk.digits());
+    change(disks.digits());
+    let refusals = [walk.step(), disks.step()].map(|step| matches!(step, Step::Refused(7)));
+    assert!(refusals[0] == refusals[1], "{radices:?}");
+    refusals[0]
+}
+
+fn refused_spoilt(radices: &[u8], moves: usize, spoilings: &[Spoiling], digit: usize) {
+    for spoil in spoilings {
+        assert!(refused(radices, moves, |digits| spoil(digits, digit)), "{radices:?}");
+    }
+}
+
+#[test]
+fn spoilt_states_are_refused() {
+    let mut chance = Chance::new(5);
+    for _ in 0..1_000 {
+        let n = chance.between(3, 39);
+        let moves = chance.between(0, 50);
+        let mut places: Vec<usize> = (0..n).collect();
+        chance.shuffle(&mut places);
+        let [locked, moving, other] = [places[0], places[1], places[2]];
+        let mut some = chance.bytes(n, 0, 1);
+        some[locked] = 0;
+        some[moving] = 1;
+        some[other] = 1;
+        // All that move have two notches, or all three: so both engines can be opened.
+        for more in [1, 2] {
+            let radices: Vec<u8> = some.iter().map(|&moves| 1 + more * moves).collect();
+            refused_spoilt(&radices, moves, &OF_ANY, 0);
+            refused_spoilt(&radices, moves, &OF_MOVING, n - 1 - moving);
+            refused_spoilt(&radices, moves, &OF_LOCKED, n - 1 - locked);
+            let all = vec![1 + more; n];
+            refused_spoilt(&all, moves, &OF_ANY, 0);
+            refused_spoilt(&all, moves, &OF_MOVING, n - 1 - moving);
+            // What stands after the digits that move is nothing.
+            for radices in [radices, all] {
+                let unused = |digits: &mut Digits| digits.moving.indices[digits.moving.count..].fill(0xff);
+                assert!(!refused(&radices, moves, unused));
+            }
+        }
+    }
+}
+
+/// N of a state, on both sides of its limit and where 64 bits do not hold it.
+#[test]
+fn states_have_sizes() {
+    let changed_to = |m: u8| move |digits: &mut Digits| digits.radices[..digits.n].fill(m);
+    assert!(!refused(&[2; 31], 0, changed_to(4)));
+    assert!(!refused(&[2; 39], 0, changed_to(3)));
+    assert!(refused(&[2; 40], 0, changed_to(3)));
+    assert!(refused(&[2; 48], 0, changed_to(3)));
+    assert!(refused(&[2; 32], 0, changed_to(4)));
 }

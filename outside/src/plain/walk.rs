@@ -1,6 +1,6 @@
 //! The buffered engine on a state by reference: call by call, each with the range rule, and as one run that tests it once.
-use super::engine::{advance, digits_in_range, put_moves, reversed, size_in_state, Step};
-use super::words::{counted, MOST_DIGITS};
+use super::engine::{all, put_moves, Digits, Step, INDICES};
+use super::words::MOST_DIGITS;
 use crate::capi::Answer;
 
 const MOST_ENTRIES: usize = 32;
@@ -12,21 +12,22 @@ trait Queue {
     fn pop(&mut self) -> u8;
 }
 
-/// The queue of a state: its oldest entry stands first, so that equal queues are equal bytes.
+/// The queue of a state: its oldest entry stands first, so that equal queues are equal bytes. (Its length is a byte because it
+/// is compared with those of `INDICES`.)
 struct Shifting {
     entries: [u8; MOST_ENTRIES],
-    len: usize,
+    len: u8,
 }
 
 impl Queue for Shifting {
     #[inline]
     fn len(&self) -> usize {
-        self.len
+        self.len.into()
     }
 
     #[inline]
     fn push(&mut self, entry: u8) {
-        self.entries[self.len] = entry;
+        self.entries[self.len()] = entry;
         self.len += 1;
     }
 
@@ -36,6 +37,15 @@ impl Queue for Shifting {
         self.entries.copy_within(1.., 0);
         self.len -= 1;
         oldest
+    }
+}
+
+impl Shifting {
+    /// Whether the entries lie in 1 to `most`.
+    #[inline]
+    fn in_range(&self, most: u8) -> bool {
+        let places = self.entries.iter().zip(&INDICES);
+        places.fold(true, |ok, (&k, &i)| ok & ((1 <= k) & (k <= most) | (i >= self.len)))
     }
 }
 
@@ -71,7 +81,7 @@ impl Ring {
         Ring {
             entries: queue.entries,
             first: 0,
-            end: queue.len,
+            end: queue.len(),
         }
     }
 
@@ -80,19 +90,18 @@ impl Ring {
         self.entries.rotate_left(self.first % MOST_ENTRIES);
         Shifting {
             entries: self.entries,
-            len,
+            len: len as u8,
         }
     }
 }
 
-/// The state but for its queue. `radices[n]` is 2, the radix of the place after the last digit.
+/// The state but for its queue. The place, like the entries, counts the digits that move alone. The counter has a number for
+/// every digit, 0 where it is locked; its last place, after them, is `last`.
 struct Core {
-    radices: [u8; MOST_DIGITS + 1],
-    n: usize,
+    digits: Digits,
     capacity: usize,
-    word: [u8; MOST_DIGITS],
-    downs: [bool; MOST_DIGITS],
-    counter: [u8; MOST_DIGITS + 1],
+    counter: [u8; MOST_DIGITS],
+    last: bool,
     place: usize,
     moves: u64,
     steps: u64,
@@ -108,29 +117,44 @@ impl Core {
     /// A work step. The place counts from 0 here; entries count from 1.
     #[inline]
     fn work(&mut self, queue: &mut impl Queue) {
-        let place = self.place;
-        let b = self.counter[place];
-        if place == self.n && b == 1 {
-            return;
+        if self.place == self.digits.moving.count {
+            return self.work_at_last(queue);
         }
-        if b == self.radices[place] - 1 {
-            self.counter[place] = 0;
+        let i = self.digits.at_place(self.place);
+        let b = self.counter[i];
+        if b == self.digits.radices[i] - 1 {
+            self.counter[i] = 0;
             self.place += 1;
         } else if queue.len() < self.capacity {
-            self.counter[place] = b + 1;
-            queue.push(place as u8 + 1);
-            self.place = 0;
+            self.counter[i] = b + 1;
+            self.append(queue);
         } else {
             return;
         }
         self.steps += 1;
     }
 
+    /// A work step at the counter's last place, which counts to 1 and never carries.
+    fn work_at_last(&mut self, queue: &mut impl Queue) {
+        if !self.last && queue.len() < self.capacity {
+            self.last = true;
+            self.append(queue);
+            self.steps += 1;
+        }
+    }
+
+    #[inline]
+    fn append(&mut self, queue: &mut impl Queue) {
+        queue.push(self.place as u8 + 1);
+        self.place = 0;
+    }
+
     /// The carries since a place, undone.
     fn undo(&mut self, place: usize) {
         self.steps -= (self.place - place) as u64;
-        for i in place..self.place {
-            self.counter[i] = self.radices[i] - 1;
+        for carried in place..self.place {
+            let i = self.digits.at_place(carried);
+            self.counter[i] = self.digits.radices[i] - 1;
         }
         self.place = place;
     }
@@ -145,48 +169,42 @@ impl Core {
             self.undo(place);
             return Step::Refused(10);
         }
-        let i = usize::from(queue.pop()) - 1;
-        if i == self.n {
+        let removed = usize::from(queue.pop()) - 1;
+        if removed == self.digits.moving.count {
             self.ended = true;
             return Step::End;
         }
         self.moves += 1;
-        Step::Moved(advance(i, self.radices[i], &mut self.word[i], &mut self.downs[i]))
+        Step::Moved(self.digits.advance(self.digits.at_place(removed)))
     }
 
-    /// The places of the counter, the place that it has come to and the numbers of moves and steps.
+    /// The counter, the place that it has come to and the numbers of moves and steps.
     #[inline]
-    fn counts_in_range(&self, n: usize, total: u64) -> bool {
-        let places = self.radices[..=n].iter().zip(&self.counter[..=n]);
-        let counted = places.fold(true, |ok, (m, b)| ok & (b < m));
-        let steps = 2 * (self.moves + u64::from(self.ended));
-        counted & (self.radices[n] == 2) & (self.place <= n) & (self.moves < total) & (self.steps <= steps)
+    fn counts_in_range(&self, total: u64) -> bool {
+        let counted = all(|i| self.counter[i] < self.digits.radices[i]);
+        let placed = self.place <= self.digits.moving.count;
+        counted && placed && self.moves < total && self.steps <= 2 * (self.moves + u64::from(self.ended))
     }
 }
 
 impl Walk {
     /// Refusals 2 to 5.
     pub fn open(radices: &[u8], capacity: usize) -> Result<Walk, u8> {
-        counted(radices)?;
+        let digits = Digits::open(radices)?;
         if capacity == 0 || capacity > MOST_ENTRIES {
             return Err(5);
         }
-        let n = radices.len();
-        let mut core = Core {
-            radices: reversed(radices),
-            n,
-            capacity,
-            word: [0; MOST_DIGITS],
-            downs: [false; MOST_DIGITS],
-            counter: [0; MOST_DIGITS + 1],
-            place: 0,
-            moves: 0,
-            steps: 0,
-            ended: false,
-        };
-        core.radices[n] = 2;
         Ok(Walk {
-            core,
+            core: Core {
+                digits,
+                capacity,
+                counter: [0; MOST_DIGITS],
+                last: false,
+                place: 0,
+                moves: 0,
+                steps: 0,
+                ended: false,
+            },
             queue: Shifting {
                 entries: [0; MOST_ENTRIES],
                 len: 0,
@@ -198,18 +216,14 @@ impl Walk {
     #[inline]
     fn in_range(&self) -> bool {
         let Walk { core, queue } = self;
-        let n = core.n;
-        if n > MOST_DIGITS || core.capacity == 0 || core.capacity > MOST_ENTRIES || queue.len > core.capacity {
+        if core.capacity == 0 || core.capacity > MOST_ENTRIES || queue.len() > core.capacity {
             return false;
         }
-        let Some(total) = size_in_state(&core.radices[..n]) else {
+        let Some(total) = core.digits.size_in_range() else {
             return false;
         };
-        let digits = digits_in_range(&core.radices[..n], &core.word[..n], &core.downs[..n]);
-        let entries = queue.entries[..queue.len]
-            .iter()
-            .fold(true, |ok, &k| ok & (1 <= k) & (usize::from(k) <= n + 1));
-        digits & entries & core.counts_in_range(n, total)
+        let most = core.digits.moving.count as u8 + 1;
+        queue.in_range(most) && core.counts_in_range(total) && core.digits.word_in_range()
     }
 
     /// One call.
@@ -222,6 +236,12 @@ impl Walk {
             return Step::End;
         }
         self.core.call(&mut self.queue)
+    }
+
+    /// For tests of the range rule.
+    #[cfg(test)]
+    pub fn digits(&mut self) -> &mut Digits {
+        &mut self.core.digits
     }
 
     /// As many calls as `out` has bytes, until one does not move; the range rule is tested before the first alone.

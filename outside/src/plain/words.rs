@@ -16,13 +16,13 @@ pub fn counted(radices: &[u8]) -> Answer {
     if radices.is_empty() || radices.len() > MOST_DIGITS {
         return Err(2);
     }
-    if radices.iter().any(|&m| m < 2) {
+    if radices.contains(&0) {
         return Err(3);
     }
     product(radices).ok_or(4)
 }
 
-/// No radix is below 2, so a product that is over the limit stays there, and one test at the end will do.
+/// No radix is 0, so a product that is over the limit stays there, and one test at the end will do.
 #[inline]
 fn product(radices: &[u8]) -> Option<u64> {
     radices

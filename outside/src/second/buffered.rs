@@ -1,4 +1,7 @@
-//! The buffered engine: document 01, "The buffered engine", and document 004, section 10.
+//! The buffered engine: document 01, "The buffered engine", document 02, request 4, and document 004, section 10.
+//!
+//! Work steps, counter and queue run over the moving sluices alone: place i is the i-th of them, which is sluice i only if none
+//! before it is locked.
 use super::sluices::Sluices;
 use super::survey::{self, MOST_SLUICES};
 use super::{Answer, Refusal};
@@ -54,26 +57,32 @@ impl Walk {
         Ok(Walk::fresh(Sluices::fresh(counts), capacity))
     }
 
-    /// m_i, where m_(n+1) is 2.
+    /// The counter's last place, one more than the moving sluices. Its entry is the end.
+    pub fn last_place(&self) -> usize {
+        self.sluices.moving + 1
+    }
+
+    /// The notch count of the i-th moving sluice; at the last place 2.
     pub fn count(&self, i: usize) -> u8 {
-        if i == self.sluices.n + 1 {
+        if i == self.last_place() {
             2
         } else {
-            self.sluices.radix[i - 1]
+            self.sluices.radix[self.sluices.sluice(i) - 1]
         }
     }
 
     /// Whether a handed-in state is in range.
     fn in_range(&self) -> bool {
         let Some(size) = self.sluices.size() else { return false };
-        let beyond = self.sluices.n + 1;
+        let places = 1..=self.last_place();
         let most_steps = 2 * u128::from(self.moves) + if self.ended { 2 } else { 0 };
         check_capacity(self.capacity).is_ok()
+            && self.sluices.moving_in_range()
             && self.sluices.setting_in_range()
-            && (1..=beyond).all(|i| self.counter[i - 1] < self.count(i))
-            && (1..=beyond).contains(&self.place)
+            && places.clone().all(|i| self.counter[i - 1] < self.count(i))
+            && places.contains(&self.place)
             && self.queued <= self.capacity
-            && self.entry[..self.queued].iter().all(|&k| (1..=beyond).contains(&k.into()))
+            && self.entry[..self.queued].iter().all(|&k| places.contains(&k.into()))
             && self.moves <= size - 1
             && u128::from(self.steps) <= most_steps
     }
@@ -82,7 +91,7 @@ impl Walk {
     fn work(&mut self) {
         let i = self.place;
         let b = self.counter[i - 1];
-        if i == self.sluices.n + 1 && b == 1 {
+        if i == self.last_place() && b == 1 {
             return; // idle, no carry past the last place
         }
         if b == self.count(i) - 1 {
@@ -122,12 +131,13 @@ impl Walk {
         next.work();
         next.work();
         let Some(k) = next.remove() else { return Answer::Refused(10) };
-        let answer = if k == next.sluices.n + 1 {
+        let answer = if k == next.last_place() {
             next.ended = true;
             Answer::End
         } else {
+            let sluice = next.sluices.sluice(k);
             next.moves += 1;
-            Answer::Moved(next.sluices.move_sluice(k))
+            Answer::Moved(next.sluices.move_sluice(sluice))
         };
         *self = next;
         answer

@@ -1,9 +1,11 @@
-//! The disk engine: document 01, "The disk engine", and document 004, sections 7 and 8.
+//! The disk engine: document 01, "The disk engine", document 02, request 4, and document 004, sections 7 and 8.
+//!
+//! Disk i is the i-th of the moving sluices; a locked one is no disk.
 use super::sluices::Sluices;
 use super::survey::{self, MOST_SLUICES};
 use super::{Answer, Refusal};
 
-/// `turn` and the pegs may be anything in a made-up state. The pegs count for even counts only.
+/// `turn` and the pegs may be anything in a made-up state. The pegs count for even counts only, one for each disk.
 #[derive(Clone, Debug, PartialEq, Eq)]
 pub struct Disks {
     pub sluices: Sluices,
@@ -20,12 +22,13 @@ enum Form {
     Even(u8),
 }
 
-/// The form for these counts, of which there is one at least, or refusal 6.
+/// The form for the moving sluices' counts, or refusal 6. With none it is the odd one.
 fn form(counts: &[u8]) -> Result<Form, Refusal> {
-    let m = counts[0];
     if counts.iter().all(|m| m % 2 == 1) {
-        Ok(Form::Odd)
-    } else if m % 2 == 0 && counts.iter().all(|&other| other == m) {
+        return Ok(Form::Odd);
+    }
+    let m = counts[0];
+    if m % 2 == 0 && counts.iter().all(|&other| other == m) {
         Ok(Form::Even(m))
     } else {
         Err(6)
@@ -49,17 +52,21 @@ impl Disks {
     /// A fresh walk.
     pub fn open(counts: &[u8]) -> Result<Disks, Refusal> {
         survey::size(counts)?;
-        form(counts)?;
-        Ok(Disks::fresh(Sluices::fresh(counts)))
+        let sluices = Sluices::fresh(counts);
+        form(&sluices.moving_counts())?;
+        Ok(Disks::fresh(sluices))
     }
 
     /// The form, if a handed-in state is in range.
     fn form_in_range(&self) -> Option<Form> {
         self.sluices.size()?;
-        let form = form(&self.sluices.counts()).ok()?;
+        if !self.sluices.moving_in_range() {
+            return None;
+        }
+        let form = form(&self.sluices.moving_counts()).ok()?;
         let within = match form {
             Form::Odd => self.turn <= 1,
-            Form::Even(m) => self.turn < m.into() && self.peg[..self.sluices.n].iter().all(|&peg| peg <= m),
+            Form::Even(m) => self.turn < m.into() && self.peg[..self.sluices.moving].iter().all(|&peg| peg <= m),
         };
         (within && self.sluices.setting_in_range()).then_some(form)
     }
@@ -67,9 +74,10 @@ impl Disks {
     /// Odd counts: left pair on turn 0, right pair on turn 1. A disk is off the left pair where it is on the right peg.
     fn choose_odd(&self) -> Option<usize> {
         let s = &self.sluices;
-        (1..=s.n).find(|&i| {
-            let off = if self.turn == 0 { s.radix[i - 1] - 1 } else { 0 };
-            s.digit[i - 1] != off
+        (1..=s.moving).find(|&disk| {
+            let x = s.sluice(disk) - 1;
+            let off = if self.turn == 0 { s.radix[x] - 1 } else { 0 };
+            s.digit[x] != off
         })
     }
 
@@ -78,14 +86,14 @@ impl Disks {
         if self.turn < usize::from(m) - 1 {
             return Some(1);
         }
-        (1..=self.sluices.n).find(|&i| self.peg[i - 1] != self.peg[0])
+        (1..=self.sluices.moving).find(|&disk| self.peg[disk - 1] != self.peg[0])
     }
 
-    /// Disk k goes one peg round the ring of m + 1: clockwise if odd, else the other way.
-    fn go_round(&mut self, k: usize, m: u8) {
+    /// A disk goes one peg round the ring of m + 1: clockwise if its number among the disks is odd, else the other way.
+    fn go_round(&mut self, disk: usize, m: u8) {
         let pegs = u16::from(m) + 1;
-        let onward = if k % 2 == 1 { 1 } else { pegs - 1 };
-        self.peg[k - 1] = ((u16::from(self.peg[k - 1]) + onward) % pegs) as u8;
+        let onward = if disk % 2 == 1 { 1 } else { pegs - 1 };
+        self.peg[disk - 1] = ((u16::from(self.peg[disk - 1]) + onward) % pegs) as u8;
     }
 
     /// One call.
@@ -97,15 +105,16 @@ impl Disks {
             Form::Odd => self.choose_odd(),
             Form::Even(m) => self.choose_even(m),
         };
-        let Some(k) = chosen else { return Answer::End };
+        let Some(disk) = chosen else { return Answer::End };
         match form {
             Form::Odd => self.turn = 1 - self.turn,
             Form::Even(m) => {
                 self.turn = (self.turn + 1) % usize::from(m);
-                self.go_round(k, m);
+                self.go_round(disk, m);
             }
         }
-        Answer::Moved(self.sluices.move_sluice(k))
+        let sluice = self.sluices.sluice(disk);
+        Answer::Moved(self.sluices.move_sluice(sluice))
     }
 }
 

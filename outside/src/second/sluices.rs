@@ -1,11 +1,14 @@
-//! What both engines keep: the survey, the setting and the directions, sluice 1 first.
+//! What both engines keep: the survey, its moving sluices, the setting and the directions, sluice 1 first.
 use super::survey::{self, Change, MOST_SLUICES};
 
-/// n may be anything in a made-up state, so it is not the arrays' length.
+/// n and `moving` may be anything in a made-up state, so they are not the arrays' lengths. `number` holds the moving sluices in
+/// rising order, and `moving` says how many they are.
 #[derive(Clone, Debug, PartialEq, Eq)]
 pub struct Sluices {
     pub n: usize,
     pub radix: [u8; MOST_SLUICES],
+    pub moving: usize,
+    pub number: [u8; MOST_SLUICES],
     pub digit: [u8; MOST_SLUICES],
     pub down: [bool; MOST_SLUICES],
 }
@@ -16,6 +19,8 @@ impl Sluices {
         Sluices {
             n: 0,
             radix: [0; MOST_SLUICES],
+            moving: 0,
+            number: [0; MOST_SLUICES],
             digit: [0; MOST_SLUICES],
             down: [false; MOST_SLUICES],
         }
@@ -28,7 +33,14 @@ impl Sluices {
         for (radix, &m) in sluices.radix.iter_mut().zip(counts.iter().rev()) {
             *radix = m;
         }
+        sluices.set_moving(&survey::moving(counts));
         sluices
+    }
+
+    /// The moving sluices are these; places past them stay as they are.
+    pub fn set_moving(&mut self, numbers: &[u8]) {
+        self.moving = numbers.len();
+        self.number[..numbers.len()].copy_from_slice(numbers);
     }
 
     /// The notch counts in the order in which they are handed in, sluice n first; none where n is over 48.
@@ -43,12 +55,31 @@ impl Sluices {
         survey::size(self.radix.get(..self.n)?).ok()
     }
 
-    /// Each notch below its count; the direction up at 0 and down at the last notch.
+    /// The moving sluices are those of the survey with a count over 1, in rising order.
+    pub fn moving_in_range(&self) -> bool {
+        let moving = (1..=self.n).filter(|&i| self.radix[i - 1] > 1);
+        let numbers = self.number.get(..self.moving);
+        numbers.is_some_and(|numbers| numbers.iter().map(|&k| usize::from(k)).eq(moving))
+    }
+
+    /// Each notch below its count; the direction up at 0 and down at the last notch. For a locked sluice that is notch 0 and
+    /// direction up, as nothing is asked of it at its last notch.
     pub fn setting_in_range(&self) -> bool {
         (0..self.n).all(|x| {
             let (a, m, down) = (self.digit[x], self.radix[x], self.down[x]);
-            a < m && !(a == 0 && down) && !(a == m - 1 && !down)
+            let locked = m == 1;
+            a < m && !(a == 0 && down) && (locked || !(a == m - 1 && !down))
         })
+    }
+
+    /// The sluice that is the i-th of the moving ones, from 1.
+    pub fn sluice(&self, i: usize) -> usize {
+        self.number[i - 1].into()
+    }
+
+    /// The notch counts of the moving sluices, in rising order.
+    pub fn moving_counts(&self) -> Vec<u8> {
+        (1..=self.moving).map(|i| self.radix[self.sluice(i) - 1]).collect()
     }
 
     /// Sluice k moves one notch in its direction, which turns at either end.

@@ -9,7 +9,7 @@ pub fn size(counts: &[u8]) -> Result<u64, Refusal> {
     if counts.is_empty() || counts.len() > MOST_SLUICES {
         return Err(2);
     }
-    if counts.iter().any(|&m| m < 2) {
+    if counts.contains(&0) {
         return Err(3);
     }
     let mut product = 1;
@@ -21,6 +21,12 @@ pub fn size(counts: &[u8]) -> Result<u64, Refusal> {
         }
     }
     Ok(product as u64)
+}
+
+/// The numbers of the moving sluices in rising order; a count of 1 is a locked sluice's.
+pub fn moving(counts: &[u8]) -> Vec<u8> {
+    let numbered = (1..).zip(counts.iter().rev());
+    numbered.filter(|(_, &m)| m > 1).map(|(number, _)| number).collect()
 }
 
 /// The list as document 01 builds it, for surveys that are small enough to be written down.

@@ -1,6 +1,8 @@
-//! Document 01's cases.
+//! Document 01's cases, and those of document 02, request 4.
 use super::buffered::{self, Walk};
-use super::survey::{list, rank, run, setting, size};
+use super::disks::Disks;
+use super::sluices::Sluices;
+use super::survey::{list, moving, rank, run, setting, size, Change};
 use super::{disks, log, text, Answer};
 
 /// A setting or a survey of one-digit numbers.
@@ -59,20 +61,138 @@ fn openings() {
         [0, 1, 48, 49].map(|n| size(&vec![2; n]).err()),
         [Some(2), None, None, Some(2)]
     );
-    assert_eq!([1, 2, 255].map(|m| size(&[m]).err()), [Some(3), None, None]);
+    assert_eq!([0, 1, 2, 255].map(|m| size(&[m]).err()), [Some(3), None, None, None]);
     assert_eq!([32, 33].map(|c| Walk::open(&[2], c).err()), [None, Some(5)]);
+    assert_eq!([[2, 4], [3, 5]].map(|counts| Disks::open(&counts).err()), [Some(6), None]);
+}
+
+#[test]
+fn openings_with_locked_sluices() {
     assert_eq!(
-        [[2, 4], [3, 5]].map(|counts| disks::Disks::open(&counts).err()),
-        [Some(6), None]
+        [[1, 2, 2], [1, 2, 4], [2, 1, 3], [3, 1, 5], [1, 1, 1]].map(|counts| Disks::open(&counts).err()),
+        [None, Some(6), Some(6), None, None]
     );
+    assert_eq!([[1, 1], [1, 0], [0, 1]].map(|counts| size(&counts)), [Ok(1), Err(3), Err(3)]);
+    assert_eq!([48, 49].map(|n| size(&vec![1; n])), [Ok(1), Err(2)]);
+    assert_eq!(
+        [0, 1, 32, 33].map(|c| Walk::open(&[1], c).err()),
+        [Some(5), None, None, Some(5)]
+    );
+    assert_eq!(moving(&[2, 1, 3]), [1, 3]);
+    let fresh = Walk::open(&[2, 1, 3], 1).unwrap().sluices;
+    assert_eq!((fresh.n, fresh.moving, &fresh.number[..3]), (3, 2, &[1, 3, 0][..]));
+}
+
+/// A sluice that moves up.
+fn up(sluice: u8) -> Answer {
+    Answer::Moved(Change { sluice, down: false })
+}
+
+#[test]
+fn one_moves_between_two_locked() {
+    assert_eq!(list(&[1, 2, 1]), ["000", "010"].map(digits));
+    let (mut walk, mut disks) = (Walk::open(&[1, 2, 1], 1).unwrap(), Disks::open(&[1, 2, 1]).unwrap());
+    assert_eq!((walk.step(), disks.step()), (up(2), up(2)));
+    assert_eq!(
+        (walk.sluices.digit[..3].to_vec(), walk.sluices.down[1]),
+        (vec![0, 1, 0], true)
+    );
+    assert_eq!(disks.sluices, walk.sluices);
+    // One disk, clockwise on a ring of three pegs, though its sluice's number is even.
+    assert_eq!((disks.peg[0], disks.turn), (1, 1));
+    assert_eq!((walk.step(), disks.step()), (Answer::End, Answer::End));
+    assert_eq!((walk.moves, walk.ended), (1, true));
+}
+
+/// The first call is the end: one useful step makes its entry, the next is idle at the counter's last place.
+#[test]
+fn all_locked() {
+    for n in [1, 2, 48] {
+        let mut walk = Walk::open(&vec![1; n], 1).unwrap();
+        assert_eq!((walk.step(), walk.steps, walk.counter[0], walk.place), (Answer::End, 1, 1, 1));
+        let ended = walk.clone();
+        assert_eq!((walk.step(), walk), (Answer::End, ended));
+        let mut disks = Disks::open(&vec![1; n]).unwrap();
+        let fresh = disks.clone();
+        assert_eq!((disks.step(), &disks), (Answer::End, &fresh));
+        disks.turn = 1;
+        assert_eq!(disks.step(), Answer::End);
+        disks.turn = 2;
+        assert_eq!(disks.step(), Answer::Refused(7));
+    }
+}
+
+/// Three two-notch sluices as in document 01, two locked ones among them.
+#[test]
+fn the_buffer_counts_moving_sluices() {
+    let counts = [2, 1, 2, 1, 2];
+    let whole = removals(&counts, 2);
+    assert_eq!((whole.len(), whole[3], whole[7].1), (8, (5, 8), 16));
+    let dry = removals(&counts, 1);
+    assert_eq!((dry.len(), dry[7].0), (8, 0));
+}
+
+/// Whether a walk's and the disks' state on counts 2 1 2 are in range once these sluices have been changed.
+fn in_range(change: impl Fn(&mut Sluices)) -> [bool; 2] {
+    let (mut walk, mut disks) = (Walk::open(&[2, 1, 2], 1).unwrap(), Disks::open(&[2, 1, 2]).unwrap());
+    change(&mut walk.sluices);
+    change(&mut disks.sluices);
+    [walk.step(), disks.step()].map(|answer| answer != Answer::Refused(7))
+}
+
+#[test]
+fn ranges_with_locked_sluices() {
+    assert_eq!(in_range(|_| ()), [true; 2]);
+    assert_eq!(in_range(|sluices| sluices.number[2] = 255), [true; 2]);
+    for wrong in [
+        &[][..],
+        &[1],
+        &[3],
+        &[3, 1],
+        &[1, 2],
+        &[2, 3],
+        &[1, 1],
+        &[1, 4],
+        &[1, 2, 3],
+        &[1, 3, 0],
+        &[1, 3, 4],
+    ] {
+        assert_eq!(in_range(|sluices| sluices.set_moving(wrong)), [false; 2]);
+    }
+    for moving in [0, 1, 3, 48, 49, 255] {
+        assert_eq!(in_range(|sluices| sluices.moving = moving), [false; 2]);
+    }
+    assert_eq!(in_range(|sluices| sluices.down[1] = true), [false; 2]);
+    assert_eq!(in_range(|sluices| sluices.digit[1] = 1), [false; 2]);
+    assert_eq!(in_range(|sluices| sluices.radix[1] = 2), [false; 2]);
+    assert_eq!(in_range(|sluices| sluices.radix[2] = 1), [false; 2]);
+    let unlocked = |sluices: &mut Sluices| {
+        sluices.radix[1] = 2;
+        sluices.set_moving(&[1, 2, 3]);
+    };
+    let locked = |sluices: &mut Sluices| {
+        sluices.radix[2] = 1;
+        sluices.set_moving(&[1]);
+    };
+    assert_eq!((in_range(unlocked), in_range(locked)), ([true; 2], [true; 2]));
 }
 
 #[test]
 fn disks_follow_the_list() {
-    for counts in [&[3, 5, 3][..], &[4, 4, 4], &[2; 7], &[6, 6], &[7]] {
-        let moves = disks::moves(counts, usize::MAX).unwrap();
-        assert_eq!(moves, super::survey::move_bytes(counts, size(counts).unwrap() - 1));
-        assert_eq!(moves, buffered::moves(counts, 32, usize::MAX).unwrap());
+    let without_locked = [&[3, 5, 3][..], &[4, 4, 4], &[2; 7], &[6, 6], &[7]];
+    let with_locked = [
+        &[1, 3, 1, 5, 3][..],
+        &[4, 1, 4, 4, 1],
+        &[2, 2, 1, 2, 1, 1, 2],
+        &[6, 1, 6],
+        &[7, 1],
+        &[1, 1],
+    ];
+    for counts in without_locked.iter().chain(&with_locked) {
+        let size = size(counts).unwrap();
+        let moves = disks::moves(counts, size as usize).unwrap();
+        assert_eq!(moves, super::survey::move_bytes(counts, size - 1));
+        assert_eq!(moves, buffered::moves(counts, 32, size as usize).unwrap());
     }
 }
 
@@ -88,6 +208,18 @@ fn logs() {
     assert_eq!(log::read(&bytes), Err(11));
 }
 
+/// With all locked no move is the last one, so that its log ends.
+#[test]
+fn logs_with_locked_sluices() {
+    let bytes = vec![1, 2, 1, 2, 1, 1, 2, 2, 1, 4, 0, 0, 0, 0, 0, 0, 0, 0];
+    assert_eq!(log::write(&[1, 1], 1, 0, 18), Ok(bytes.clone()));
+    assert_eq!(log::write(&[1, 1], 1, 1, 99), Err(8));
+    assert_eq!((log::read(&bytes), log::read(&bytes[..9])), (Ok(0), Err(11)));
+    let bytes = vec![1, 3, 1, 2, 1, 1, 2, 2, 2, 2, 3, 1, 3, 2, 4, 0, 0, 0, 0, 0, 0, 0, 1];
+    assert_eq!(log::write(&[1, 2, 1], 1, 1, 23), Ok(bytes.clone()));
+    assert_eq!((log::read(&bytes), log::read(&bytes[..12])), (Ok(1), Ok(0)));
+}
+
 #[test]
 fn texts() {
     let whole = "sluices 2 settings 6\n0 0.0 start\n1 0.1 1 up\n2 0.2 1 up\n3 1.2 2 up\n4 1.1 1 down\n5 1.0 1 down\nend 5\n";
@@ -95,4 +227,15 @@ fn texts() {
     assert_eq!(text::output(b"\n"), "refused 2\n");
     assert_eq!(text::output(b"2 3"), "unread\n");
     assert_eq!(text::output(b"17 241\n"), "long\n");
+}
+
+#[test]
+fn texts_with_locked_sluices() {
+    assert_eq!(text::output(b"1\n"), "sluices 1 settings 1\n0 0 start\nend 0\n");
+    assert_eq!(text::output(b"1 1\n"), "sluices 2 settings 1\n0 0.0 start\nend 0\n");
+    assert_eq!(
+        text::output(b"1 2 1\n"),
+        "sluices 3 settings 2\n0 0.0.0 start\n1 0.1.0 2 up\nend 1\n"
+    );
+    assert_eq!([&b"0\n"[..], b"1 0\n"].map(text::output), ["refused 3\n"; 2]);
 }

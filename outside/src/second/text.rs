@@ -1,6 +1,7 @@
 //! The text of the program `walk`.
 use super::buffered::Walk;
-use super::{survey, Answer};
+use super::survey::{self, Change};
+use super::Answer;
 
 const MOST_LINES: u64 = 4096;
 
@@ -34,15 +35,28 @@ fn read_count(digits: &[u8]) -> Option<u8> {
     value.try_into().ok()
 }
 
-/// The walk of the buffered engine; half of n, rounded up, is capacity enough for it not to run dry.
+/// Half of the moving sluices, rounded up: enough for a walk not to run dry. 1 where none moves.
+fn capacity(counts: &[u8]) -> usize {
+    survey::moving(counts).len().div_ceil(2).max(1)
+}
+
+/// The walk of the buffered engine.
 fn walk_text(counts: &[u8], size: u64) -> String {
-    let mut walk = Walk::open(counts, counts.len().div_ceil(2)).expect("the survey was checked");
+    let mut walk = Walk::open(counts, capacity(counts)).expect("the survey was checked");
     let mut text = format!("sluices {} settings {size}\n0 {} start\n", counts.len(), setting_text(&walk));
-    while let Answer::Moved(change) = walk.step() {
-        let direction = if change.down { "down" } else { "up" };
-        text += &format!("{} {} {} {direction}\n", walk.moves, setting_text(&walk), change.sluice);
+    loop {
+        match walk.step() {
+            Answer::Moved(change) => text += &move_text(&walk, change),
+            Answer::End => return text + &format!("end {}\n", size - 1),
+            Answer::Refused(number) => panic!("refusal {number} in the walk of {counts:?}, though the capacity is enough"),
+        }
     }
-    text + &format!("end {}\n", size - 1)
+}
+
+/// A line: rank, setting, sluice moved, direction.
+fn move_text(walk: &Walk, change: Change) -> String {
+    let direction = if change.down { "down" } else { "up" };
+    format!("{} {} {} {direction}\n", walk.moves, setting_text(walk), change.sluice)
 }
 
 /// The notches, sluice n first, joined by points.
