@@ -17,7 +17,6 @@ pub mod Ranged
 pub mod Rounds
 pub mod Tallies
 pub mod Phases
-pub mod Stands
 pub mod Clauses
 -- laws
 pub mod Entries

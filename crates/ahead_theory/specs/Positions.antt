@@ -271,25 +271,3 @@ counter-lasts {ms} {c} {t} {k} {p} v some at h =
           let more = cost-from-N ms (one ms (v .two)) (t + k) some (omega arith) in
           absurd (omega arith)
     ]
-
--- ---- a buffer filled ahead, from whatever rank (document 02, request 6)
--- a full queue, or one that holds the last entry, is ahead
-pub ahead-full : (ms : List ℕ) (c t p : ℕ) → Buffered ms c → length ms ≤ 2 * c → Ahead ms t 0 (stepsAt ms t c p)
-ahead-full ms c t p v enough d within =
-    elim (decLt d c) [
-      | yes q ↦
-          let e : t + suc d + (c - suc d) ≡ t + c = omega arith in
-          let m : cost ms (t + suc d) ≤ cost ms (t + c) = rw e at (cost-mono ms (one ms (v .two)) (t + suc d) (c - suc d)) in
-          omega arith
-      | no q ↦
-          let e : t + suc d ≡ t + c + suc (d - c) = omega arith in
-          let same = ap (cost ms) e in
-          let b = cost-burst ms (v .two) (t + c) (suc (d - c)) (omega arith) in
-          omega arith
-    ]
-
-pub ahead-whole : (ms : List ℕ) (c t k p : ℕ) → Buffered ms c → size ms ≤ t + k → Ahead ms t 0 (stepsAt ms t k p)
-ahead-whole ms c t k p v whole d within =
-    let e : t + suc d + (k - suc d) ≡ t + k = omega arith in
-    let m : cost ms (t + suc d) ≤ cost ms (t + k) = rw e at (cost-mono ms (one ms (v .two)) (t + suc d) (k - suc d)) in
-    omega arith

@@ -51,9 +51,9 @@ fn passes(n: u8, number: u8, m: u8, a: u8, down: bool) -> bool
     (n < number) | digit_in_range(m, a, down)
 }
 
-// The range rule for the setting and the directions of n digits, which both engines keep; where n is over 48, of all that the arrays
-// hold. The loop goes over all places, whatever n is, and gathers its tests with no way out in between: three turns on vectors. The
-// place's number is counted as a byte, since an index would be compared as 64 bits.
+// The range rule for the setting and the directions of n digits, which both engines keep; where n is over 48, of all that the
+// arrays hold. The loop goes over all places, whatever n is, and gathers its tests with no way out in between: three turns on
+// vectors. The place's number is counted as a byte, since an index would be compared as 64 bits.
 pub fn digits_in_range(n: u8, radices: [u8; 48], word: [u8; 48], downs: [bool; 48]) -> bool
     ensures { λ r. ⌜ r ≡ digitsInRange (length (take n radices)) radices word downs ⌝ }
 {
@@ -75,7 +75,8 @@ fn turned(m: u8, a: u8, down: bool) -> bool
     if (a == 0) | (a == m - 1) { !down } else { down }
 }
 
-// The move that both engines make: a digit goes one notch in its direction, which turns at either end.
+// The move that both engines make: a digit goes one notch in its direction, which turns at either end. One that is locked or out of
+// range stays.
 pub fn advanced(m: u8, a: u8, down: bool) -> Directed
     ensures { λ r. ⌜ r ≡ advancedFrom m a down ⌝ }
 {
