@@ -1,4 +1,4 @@
-//! The survey walk a second time: written from documents 01, 02 and 004 alone, it shares nothing with the crates.
+//! The survey walk a second time: written from documents 01, 02 and 004, it shares nothing with the crates.
 //!
 //! It is plain before it is fast: each function says a sentence of document 01, or of document 02 where that has changed it. As
 //! there, counts and settings as bytes have sluice n first; the arrays of an engine's state have sluice 1 first.
