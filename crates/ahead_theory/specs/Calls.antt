@@ -10,6 +10,7 @@ use Rattle.gray_theory.specs.Arrays.{filled}
 use Rattle.gray_theory.specs.Locks.{MovingDigits, movingDigits}
 use Rattle.gray_theory.specs.Directions.{wordMoved, downsMoved}
 use Rattle.gray_theory.specs.Engines.{Event, moved, ended, Handed, refusedWith}
+use Rattle.gray_theory.specs.RunCalls.{Running, runWith}
 use Rattle.ahead_theory.specs.States.{Producer, Walk, movingRadices, openCheck, inRange}
 use Rattle.ahead_theory.specs.Work.{work}
 
@@ -125,3 +126,7 @@ stepBy w removing = removalOf w (getD (twice w .queue) 0 0) (dequeued (twice w))
 
 unfoldable pub stepOf : Walk → Handed Walk Event
 stepOf w = stepBy w (course w)
+
+-- ---- a run of moves: at most t calls into the lent memory `out`
+abbrev pub runOf : Walk → ℕ → List ℕ → Running Walk
+runOf w t out = runWith inRange stepOf w t out

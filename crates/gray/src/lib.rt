@@ -43,6 +43,15 @@ pub enum Stepping {
     Refused(u8),
 }
 
+// What a run of moves answers: so many, all that were asked for; the end of the walk after so many; a call refused after so many, and
+// its number; or the run refused, with no move made.
+pub enum Running {
+    Made(u64),
+    Ended(u64),
+    Stopped(u64, u8),
+    Refused(u8),
+}
+
 // A product of radices, within the limit of 2^62 or over it.
 enum Product {
     Within(u64),

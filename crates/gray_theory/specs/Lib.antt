@@ -13,6 +13,7 @@ pub mod Calls
 pub mod Directions
 pub mod Arrays
 pub mod Engines
+pub mod RunCalls
 -- theorems
 pub mod Members
 pub mod Ranks
@@ -24,6 +25,7 @@ pub mod RoundTrips
 pub mod Faults
 pub mod Turns
 pub mod Unlocked
+pub mod SingleCalls
 -- laws
 pub mod Bools
 pub mod Sizes
@@ -37,3 +39,4 @@ pub mod Gathers
 pub mod Filled
 pub mod Places
 pub mod WalkArrays
+pub mod RunLaws

@@ -12,6 +12,7 @@ use Rattle.gray_theory.specs.Arrays.{filled}
 use Rattle.gray_theory.specs.Locks.{MovingDigits, movingDigits}
 use Rattle.gray_theory.specs.Directions.{wordMoved, downsMoved}
 use Rattle.gray_theory.specs.Engines.{Event, moved, ended, Handed, refusedWith}
+use Rattle.gray_theory.specs.RunCalls.{Running, runWith}
 use Rattle.towers_theory.specs.States.{Towers, allOdd, common, openCheck, disks, inRange}
 use Rattle.towers_theory.specs.Choices.{digitOf, sweeping, chosen}
 
@@ -90,3 +91,7 @@ moveBy s (some i) = moveOf s i
 
 unfoldable pub stepOf : Towers → Handed Towers Event
 stepOf s = cond (not (inRange s)) (refusedWith 7 s) (moveBy s (chosen s))
+
+-- ---- a run of moves: at most t calls into the lent memory `out`
+abbrev pub runOf : Towers → ℕ → List ℕ → Running Towers
+runOf s t out = runWith inRange stepOf s t out
