@@ -1,10 +1,10 @@
 /* The calls of the proved library for C and for Rust (target/staticlib/libcapi.a, made by `rt staticlib capi`).
  *
- * A survey is n notch counts (radices), sluice n first; so are the notches of a setting. Each call returns a value, or minus the
- * number of the refusal (document 01, "Turned down, in checking order"). No call has a precondition but C's own: a pointer and
- * the length after it are memory that may be read, or for `out` written; where a length is 0 the pointer must still not be null.
- * Memory that is only read may overlap with other such memory, `out` with none. A refusal writes nothing; bytes of `out` past
- * those that are written stay as they came.
+ * A survey is n notch counts (radices), sluice n first; so are the notches of a setting. Each call returns a value, or minus
+ * the number of the refusal (document 01, "Turned down, in checking order"). No call has a precondition but C's own: a pointer
+ * and the length after it are memory that may be read, or for `out` written, and `made` may be written; where a length is 0 the
+ * pointer must still not be null. Memory that is only read may overlap with other such memory, `out` and `made` with none. A
+ * refusal writes nothing to `out`; bytes of `out` past those that are written stay as they came.
  *
  * Nothing checks these declarations against the source: crates/capi/src/lib.rt has the contracts. */
 #ifndef GRAY_H
@@ -28,12 +28,14 @@ int64_t gray_word(const uint8_t *radices, size_t n, uint64_t rank, uint8_t *out,
 /* The settings of ranks from .. from + count - 1, one after another; the bytes written. Refusals 2 3 4 8 9. */
 int64_t gray_list(const uint8_t *radices, size_t n, uint64_t from, uint64_t count, uint8_t *out, size_t len);
 
-/* A fresh walk of the buffered engine, stepped until out is full, the walk ends or a call finds the buffer empty: one byte a move,
- * the sluice in the low seven bits, the top bit set for down; the moves written. Refusals 2 3 4 5. */
-int64_t gray_moves(const uint8_t *radices, size_t n, size_t capacity, uint8_t *out, size_t len);
+/* A fresh walk of the buffered engine and one run of at most t moves: one byte a move at the start of out, the sluice in the
+ * low seven bits, the top bit set for down. 0 if all t moves were made; 1 if the walk ended after fewer; -10 if a removal was
+ * dry after fewer: the moves before it stand. *made is the number of moves whose bytes stand. Refusals, which make no move and
+ * set *made to 0: 2 3 4 5, then 9 if len is below t, even where the walk would end sooner. */
+int64_t gray_moves(const uint8_t *radices, size_t n, size_t capacity, uint64_t t, uint8_t *out, size_t len, uint64_t *made);
 
-/* The same from the disk engine. Refusals 2 3 4 6. */
-int64_t gray_towers(const uint8_t *radices, size_t n, uint8_t *out, size_t len);
+/* The same by the disk engine, which is never dry. Refusals 2 3 4 6 9. */
+int64_t gray_towers(const uint8_t *radices, size_t n, uint64_t t, uint8_t *out, size_t len, uint64_t *made);
 
 /* The log of the first moves; the bytes written. Refusals 2 3 4 5 8 9. */
 int64_t gray_log_write(const uint8_t *radices, size_t n, size_t capacity, uint64_t moves, uint8_t *out, size_t len);

@@ -1,4 +1,5 @@
 //! The proved library's calls (include/gray.h), safe: slices in, a value or the number of a refusal out.
+use crate::run::Run;
 
 mod c {
     extern "C" {
@@ -6,8 +7,16 @@ mod c {
         pub fn gray_rank(radices: *const u8, n: usize, word: *const u8, len: usize) -> i64;
         pub fn gray_word(radices: *const u8, n: usize, rank: u64, out: *mut u8, len: usize) -> i64;
         pub fn gray_list(radices: *const u8, n: usize, from: u64, count: u64, out: *mut u8, len: usize) -> i64;
-        pub fn gray_moves(radices: *const u8, n: usize, capacity: usize, out: *mut u8, len: usize) -> i64;
-        pub fn gray_towers(radices: *const u8, n: usize, out: *mut u8, len: usize) -> i64;
+        pub fn gray_moves(
+            radices: *const u8,
+            n: usize,
+            capacity: usize,
+            t: u64,
+            out: *mut u8,
+            len: usize,
+            made: *mut u64,
+        ) -> i64;
+        pub fn gray_towers(radices: *const u8, n: usize, t: u64, out: *mut u8, len: usize, made: *mut u64) -> i64;
         pub fn gray_log_write(radices: *const u8, n: usize, capacity: usize, moves: u64, out: *mut u8, len: usize) -> i64;
         pub fn gray_log_read(log: *const u8, len: usize) -> i64;
     }
@@ -16,17 +25,45 @@ mod c {
 /// A value, or the number of a refusal.
 pub type Answer = Result<u64, u8>;
 
+/// The number of a refusal. One that does not fit a byte is no refusal's, and neither is 255.
+#[inline]
+fn refusal(x: i64) -> u8 {
+    x.unsigned_abs().try_into().unwrap_or(u8::MAX)
+}
+
 /// No value is over 2^62, so a negative number is a refusal's.
+#[inline]
 fn answer(x: i64) -> Answer {
     if x < 0 {
-        Err(x.unsigned_abs() as u8)
+        Err(refusal(x))
     } else {
         Ok(x as u64)
     }
 }
 
-// In each call below the pointers and lengths come from slices, so the memory is there for as long as the call runs, and a `&mut`
-// slice overlaps with no other: all that the library asks. They are inlined: on small surveys a second call costs as much as the work.
+/// A dry removal: of the refusals that a run can give, the one that leaves moves standing, be it none.
+const DRY: i64 = -10;
+/// What stands where the moves made are to be told. No run makes so many, so a call that leaves it is found out.
+const UNTOLD: u64 = u64::MAX;
+
+/// What a call answers that makes a run and tells how many moves it made. A run that is refused as a whole tells 0; one that
+/// tells anything else has not been, and so is taken for one that was stopped.
+#[inline]
+fn run(call: impl FnOnce(*mut u64) -> i64) -> Run {
+    let mut made = UNTOLD;
+    match call(&mut made) {
+        0 => Run::Made(made),
+        1 => Run::Ended(made),
+        DRY => Run::Stopped(made, refusal(DRY)),
+        x if x < 0 && made == 0 => Run::Refused(refusal(x)),
+        x if x < 0 => Run::Stopped(made, refusal(x)),
+        x => panic!("no run has the value {x}"),
+    }
+}
+
+// In each call below the pointers and lengths come from slices, so the memory is there for as long as the call runs, and a
+// `&mut` slice overlaps with no other: all that the library asks. They are inlined: on small surveys a second call costs as
+// much as the work.
 
 /// N, the number of settings.
 #[inline]
@@ -52,16 +89,17 @@ pub fn list(radices: &[u8], from: u64, count: u64, out: &mut [u8]) -> Answer {
     answer(unsafe { c::gray_list(radices.as_ptr(), radices.len(), from, count, out.as_mut_ptr(), out.len()) })
 }
 
-/// Move bytes of a fresh walk by the buffered engine, until `out` is full, the walk ends or a call is dry; the moves written.
+/// A fresh walk of the buffered engine and a run of at most `t` moves, their bytes at the start of `out`.
 #[inline]
-pub fn moves(radices: &[u8], capacity: usize, out: &mut [u8]) -> Answer {
-    answer(unsafe { c::gray_moves(radices.as_ptr(), radices.len(), capacity, out.as_mut_ptr(), out.len()) })
+pub fn moves(radices: &[u8], capacity: usize, t: u64, out: &mut [u8]) -> Run {
+    let (n, len) = (radices.len(), out.len());
+    run(|made| unsafe { c::gray_moves(radices.as_ptr(), n, capacity, t, out.as_mut_ptr(), len, made) })
 }
 
-/// Move bytes of a fresh walk by the disk engine, until `out` is full or the walk ends; the moves written.
+/// The same by the disk engine.
 #[inline]
-pub fn towers(radices: &[u8], out: &mut [u8]) -> Answer {
-    answer(unsafe { c::gray_towers(radices.as_ptr(), radices.len(), out.as_mut_ptr(), out.len()) })
+pub fn towers(radices: &[u8], t: u64, out: &mut [u8]) -> Run {
+    run(|made| unsafe { c::gray_towers(radices.as_ptr(), radices.len(), t, out.as_mut_ptr(), out.len(), made) })
 }
 
 /// The log of the first `moves` moves at the start of `out`; the bytes written.

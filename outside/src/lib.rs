@@ -3,4 +3,5 @@ pub mod capi;
 pub mod chance;
 pub mod compare;
 pub mod plain;
+pub mod run;
 pub mod second;

@@ -1,3 +1,5 @@
 -- Laws that the proofs of several functions cite.
 pub mod Ranges
 pub mod Steps
+pub mod Loads
+pub mod Calls

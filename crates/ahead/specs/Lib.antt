@@ -5,3 +5,4 @@
 pub mod Structs
 -- what private functions ask for and answer
 pub mod Stages
+pub mod Stretches

@@ -1,12 +1,16 @@
 -- The structs as the theory's records, field by field: a state, and what the calls return, in document 01's terms.
+use Prim.Native.Nat.{ℕ}
+use mathlib.Core.List.{List}
 use Rattle.gray_theory.specs.Engines.{Event, Handed}
+use Rattle.gray_theory.specs.RunCalls.{Running}
 use Rattle.digit.specs.Moving.{movingAs}
-use Rattle.gray.specs.Enums.{openingAs, steppingAs}
+use Rattle.gray.specs.Enums.{openingAs, steppingAs, runningAs}
 use Rattle.ahead_theory.specs.States as theory
 use Rattle.ahead.specs.declared.Producer.{Producer}
 use Rattle.ahead.specs.declared.Walk.{Walk}
 use Rattle.ahead.specs.declared.Opened.{Opened}
 use Rattle.ahead.specs.declared.Stepped.{Stepped}
+use Rattle.ahead.specs.declared.Ran.{Ran}
 
 abbrev pub producerAs : Producer → theory.Producer
 producerAs p = record {
@@ -35,3 +39,7 @@ openedAs r = record { state = walkAs (r .walk); answer = openingAs (r .answer) }
 
 abbrev pub steppedAs : Stepped → Handed theory.Walk Event
 steppedAs r = record { state = walkAs (r .walk); answer = steppingAs (r .answer) }
+
+-- what a run hands back and answers, with the lent memory as it leaves it
+abbrev pub ranAs : Ran → List ℕ → Running theory.Walk
+ranAs r out = record { state = walkAs (r .walk); answer = runningAs (r .answer); out = out }

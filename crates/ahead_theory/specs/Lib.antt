@@ -22,3 +22,10 @@ pub mod Clauses
 pub mod Entries
 pub mod Counters
 pub mod InRange
+-- a run of moves on local arrays: its model, what it leaves undone, and that it is the engine's
+pub mod Locals
+pub mod Stretches
+pub mod LocalWork
+pub mod LocalMoves
+pub mod LocalCalls
+pub mod LocalRuns

@@ -2,17 +2,18 @@
 // library and encodes the answer. outside/include/gray.h declares them.
 use gray::Counted;
 use gray::Ranked;
+use gray::Running;
 use gray::Written;
 use movelog::Reading;
 ghost use mathlib.Core.Path.{_≡_};
 ghost use Rattle.gray_theory.specs.Answers.{refused};
 ghost use Rattle.gray_theory.specs.Calls.{sizeCall, rankCall, wordCall};
-ghost use Rattle.gray.specs.Enums.{countedAs, rankedAs, writtenAs};
+ghost use Rattle.gray.specs.Enums.{countedAs, rankedAs, writtenAs, runningAs};
 ghost use Rattle.lister_theory.specs.Calls.{listCall};
 ghost use Rattle.movelog_theory.specs.Calls.{writeCall, readCall};
 ghost use Rattle.movelog.specs.Enums.{readingAs};
 ghost use Rattle.runs_theory.specs.Runs.{walkMovesCall, diskMovesCall};
-ghost use Rattle.capi.specs.Encoding.{encoded, Sent};
+ghost use Rattle.capi.specs.Encoding.{encoded, Sent, runCode, movesMade, Ran};
 
 // Minus a refusal's number, as C has it in 64 bits.
 fn minus(k: u8) -> u64
@@ -57,6 +58,30 @@ fn of_reading(reading: Reading) -> u64
     match reading {
         Reading::Moves(t) => t,
         Reading::Refused(k) => minus(k),
+    }
+}
+
+// How a run went.
+fn of_running(running: Running) -> u64
+    ensures { λ r. ⌜ r ≡ runCode (runningAs running) ⌝ }
+{
+    match running {
+        Running::Made(_) => 0,
+        Running::Ended(_) => 1,
+        Running::Stopped(_, k) => minus(k),
+        Running::Refused(k) => minus(k),
+    }
+}
+
+// The moves of a run whose bytes stand.
+fn moves_of(running: Running) -> u64
+    ensures { λ r. ⌜ r ≡ movesMade (runningAs running) ⌝ }
+{
+    match running {
+        Running::Made(t) => t,
+        Running::Ended(k) => k,
+        Running::Stopped(k, _) => k,
+        Running::Refused(_) => 0,
     }
 }
 
@@ -108,18 +133,28 @@ pub extern "C" fn gray_log_read(log: &[u8]) -> u64
     of_reading(movelog::read(log))
 }
 
-// A fresh walk by the buffered engine; the moves written.
+// At most t moves of a fresh walk by the buffered engine: how the run went, and in `made` the moves whose bytes stand.
 #[no_mangle]
-pub extern "C" fn gray_moves(radices: &[u8], capacity: usize, out: &mut [u8]) -> u64
-    ensures { λ r. ⌜ Sent (walkMovesCall (now (radices .entry)) capacity) r (now (out .entry)) (now (out .exit)) ⌝ }
+pub extern "C" fn gray_moves(
+    radices: &[u8],
+    capacity: usize,
+    t: u64,
+    out: &mut [u8],
+    made: &mut u64,
+) -> u64
+    ensures { λ r. ⌜ Ran (walkMovesCall (now (radices .entry)) capacity t (now (out .entry))) r (now (out .exit)) (now (made .exit)) ⌝ }
 {
-    of_written(runs::walk_moves(radices, capacity, out))
+    let running = runs::walk_moves(radices, capacity, t, out);
+    *made = moves_of(running);
+    of_running(running)
 }
 
 // The same by the disk engine.
 #[no_mangle]
-pub extern "C" fn gray_towers(radices: &[u8], out: &mut [u8]) -> u64
-    ensures { λ r. ⌜ Sent (diskMovesCall (now (radices .entry))) r (now (out .entry)) (now (out .exit)) ⌝ }
+pub extern "C" fn gray_towers(radices: &[u8], t: u64, out: &mut [u8], made: &mut u64) -> u64
+    ensures { λ r. ⌜ Ran (diskMovesCall (now (radices .entry)) t (now (out .entry))) r (now (out .exit)) (now (made .exit)) ⌝ }
 {
-    of_written(runs::disk_moves(radices, out))
+    let played = runs::disk_moves(radices, t, out);
+    *made = moves_of(played);
+    of_running(played)
 }

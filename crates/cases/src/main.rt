@@ -12,12 +12,14 @@
 //     read BYTES                              a log's number of moves, and its records of moves
 //     walk open RADICES, CAPACITY             the buffered engine
 //     walk step
+//     walk run MOVES, LENT                    a run of moves
 //     disks open RADICES                      the disk engine
 //     disks step
+//     disks run MOVES, LENT
 //
 // Radices and words have digit n first. A writer is lent LENT bytes of 9, 256 at the most; they are printed as they are
-// afterwards. The states of both engines are kept from line to line, and at first no survey is open. A step prints the state that
-// it hands back. Between calls one field of a state can be changed, to make up another; such a line has no outcome:
+// afterwards. The states of both engines are kept from line to line, and at first no survey is open. A step and a run print the state
+// that they hand back. Between calls one field of a state can be changed, to make up another; such a line has no outcome:
 //
 //     walk FIELD, VALUE                       n, moving, capacity, place, queued, steps, moves, ended
 //     walk FIELD NUMBER, VALUE                radix, number, digit, down, counter, entry
@@ -34,6 +36,7 @@ use digit::MovingDigits;
 use gray::Counted;
 use gray::Opening;
 use gray::Ranked;
+use gray::Running;
 use gray::Stepping;
 use gray::Written;
 use movelog::Reading;
@@ -68,6 +71,8 @@ const DISKS: u64 = 0x6469736b73;
 const OPEN: u64 = 0x6f70656e;
 
 const STEP: u64 = 0x73746570;
+
+const RUN: u64 = 0x72756e;
 
 const N: u64 = 0x6e;
 
@@ -277,6 +282,18 @@ fn print_stepping(answer: Stepping) {
         }
         Stepping::End => print(b": end"),
         Stepping::Refused(k) => print_refused(k),
+    }
+}
+
+fn print_running(answer: Running) {
+    match answer {
+        Running::Made(t) => print_number(b": made ", t),
+        Running::Ended(k) => print_number(b": ended ", k),
+        Running::Stopped(k, x) => {
+            print_number(b": stopped ", k);
+            print_item(x);
+        }
+        Running::Refused(x) => print_refused(x),
     }
 }
 
@@ -676,6 +693,56 @@ fn towers_call(towers: Towers, name: u64, bytes: &[u8], numbers: &[u64]) -> Towe
     towers_with(towers, name, index(bytes), (value % 256) as u8)
 }
 
+// Runs of moves: what they answer, the bytes that they were lent, and the state.
+fn run_walk(walk: Walk, t: u64, out: &mut [u8]) -> Walk {
+    let ran = walk.run(t, out);
+    let answer = ran.answer;
+    let next = ran.walk;
+    print_running(answer);
+    print(b";");
+    print_bytes(out);
+    print_walk(next);
+    next
+}
+
+fn run_towers(towers: Towers, t: u64, out: &mut [u8]) -> Towers {
+    let ran = towers.run(t, out);
+    let answer = ran.answer;
+    let next = ran.towers;
+    print_running(answer);
+    print(b";");
+    print_bytes(out);
+    print_towers(next);
+    next
+}
+
+fn run_case(held: Held, engine: u64, t: u64, lent: u64) -> Held {
+    let mut walk = held.walk;
+    let mut towers = held.towers;
+    let mut out = [9u8; 256];
+    let k = within(lent, &out);
+    if engine == WALK {
+        walk = run_walk(walk, t, &mut out[..k]);
+    } else {
+        towers = run_towers(towers, t, &mut out[..k]);
+    }
+    Held {
+        walk: walk,
+        towers: towers,
+    }
+}
+
+// A run's line has two numbers, neither of them a byte.
+fn read_and_run(held: Held, engine: u64, text: &[u8]) -> Held {
+    let mut numbers = [0u64; 2];
+    let read = read_numbers(text, &mut numbers);
+    if !read.whole | (read.count != 2) {
+        print_unread();
+        return held;
+    }
+    run_case(held, engine, numbers[0], numbers[1])
+}
+
 // The call of a line.
 fn call(held: Held, engine: u64, name: u64, bytes: &[u8], numbers: &[u64]) -> Held {
     let mut walk = held.walk;
@@ -720,6 +787,9 @@ fn name_start(engine: u64, at: usize, len: usize) -> usize
 
 // A call with the rest of its line: a list of bytes, and numbers after a comma.
 fn read_and_call(held: Held, engine: u64, name: u64, text: &[u8]) -> Held {
+    if (name == RUN) & ((engine == WALK) | (engine == DISKS)) {
+        return read_and_run(held, engine, text);
+    }
     let comma = find(text, 0, text.len(), b',');
     let mut list = [0u8; 256];
     let mut rest = [0u64; 64];

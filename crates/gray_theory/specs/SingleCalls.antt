@@ -3,16 +3,16 @@
 use Prim.Native.Nat.{ℕ, zero, suc, _+_, _≤_, _<_}
 use native.Mathlib.Omega.{arith}
 use mathlib.Core.Path.{_≡_, refl, sym, ap, subst, _∙_}
-use mathlib.Core.Bool.{Bool, true, not}
+use mathlib.Core.Bool.{Bool, true, false, not}
 use mathlib.Core.List.{List, [], _∷_, _++_}
-use borrow.Author.Tests.{le-ltb}
+use borrow.Author.Tests.{lt-ltb, le-ltb}
 use lib.ListN.{length, getD}
 use Rattle.gray_theory.specs.Answers.{Answer, given, refused}
 use Rattle.gray_theory.specs.Bools.{impossible}
 use Rattle.gray_theory.specs.MoveBytes.{moveByte}
 use Rattle.gray_theory.specs.Changes.{Change}
 use Rattle.gray_theory.specs.Engines.{Event, moved, ended, Handed, after}
-use Rattle.gray_theory.specs.RunCalls.{Stop, nothing, end, refusal, Outcome, Running, Ran, runThen, runFrom, onto, runMakes, runWith}
+use Rattle.gray_theory.specs.RunCalls.{Stop, nothing, end, refusal, Outcome, Running, Ran, runThen, runFrom, onto, runRefused, runMakes, runWith}
 
 -- what stopped a run of k moves that was to make t, and the state that it leaves
 pub data Stops {S : Type 0} (call : S → Handed S Event) (s : S) (t k : ℕ) (left : S) (stop : Stop) : Type 0 where
@@ -109,6 +109,21 @@ pub run-in-range-is-made : {S : Type 0} (inRange : S → Bool) (call : S → Han
     → runWith inRange call s t out ≡ runMakes (runFrom call s t) out
 unfolding runWith
 run-in-range-is-made inRange call s t out ranged fits = rw (ranged, le-ltb (length out) t fits)
+
+-- A state out of range is refused by 7, of no moves too, and memory that holds fewer than t bytes by 9, even if the walk would end
+-- sooner: no move is made, and nothing is written.
+pub run-out-of-range-is-refused : {S : Type 0} (inRange : S → Bool) (call : S → Handed S Event) (s : S) (t : ℕ) (out : List ℕ)
+    → inRange s ≡ false
+    → runWith inRange call s t out ≡ runRefused 7 s out
+unfolding runWith
+run-out-of-range-is-refused inRange call s t out faulty = rw faulty
+
+pub run-into-shorter-memory-is-refused : {S : Type 0} (inRange : S → Bool) (call : S → Handed S Event) (s : S) (t : ℕ) (out : List ℕ)
+    → inRange s ≡ true
+    → length out < t
+    → runWith inRange call s t out ≡ runRefused 9 s out
+unfolding runWith
+run-into-shorter-memory-is-refused inRange call s t out ranged short = rw (ranged, lt-ltb (length out) t short)
 
 -- No moves from a state in range, of an ended walk too: nothing changes, and nothing is said of the end.
 pub no-moves-change-nothing : {S : Type 0} (inRange : S → Bool) (call : S → Handed S Event) (s : S) (out : List ℕ)

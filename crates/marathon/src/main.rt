@@ -5,18 +5,25 @@
 use ahead::Walk;
 use gray::Counted;
 use gray::Opening;
-use gray::Stepping;
+use gray::Running;
 use reader::Found;
 use reader::Reader;
 use towers::Towers;
 ghost use Prim.Native.Nat.{_≤_};
 ghost use lib.ListN.{length};
 
-// How a walk came out: the last setting, the moves made, and the answer that ended it.
+// How a walk came out: the last setting, the whole parts of it that were made, and the answer of the run that ended it.
 struct Finish {
     word: [u8; 48],
-    moves: u64,
-    answer: Stepping,
+    parts: u64,
+    answer: Running,
+}
+
+// What a run of one engine leaves, and the other engine's state as it was.
+struct Part {
+    walk: Walk,
+    towers: Towers,
+    answer: Running,
 }
 
 fn print(bytes: &[u8]) {
@@ -27,37 +34,59 @@ fn wide(x: u8) -> u64 {
     x as u64
 }
 
-// Calls of the one engine or the other are made until one does not move, N at the most.
+// A run of the one engine or the other. The bytes of its moves are left.
+fn run_part(walk: Walk, towers: Towers, disks: bool, bytes: &mut [u8]) -> Part {
+    if disks {
+        let ran = towers.run(4096, bytes);
+        let next = ran.towers;
+        let answer = ran.answer;
+        return Part {
+            walk: walk,
+            towers: next,
+            answer: answer,
+        };
+    }
+    let ran = walk.run(4096, bytes);
+    let next = ran.walk;
+    let answer = ran.answer;
+    Part {
+        walk: next,
+        towers: towers,
+        answer: answer,
+    }
+}
+
+// Runs of 4,096 moves are made until one does not make them all.
 fn run(walk: Walk, towers: Towers, disks: bool, total: u64) -> Finish {
+    let mut bytes = [0u8; 4096];
     let mut ahead = walk;
     let mut pegs = towers;
-    let mut answer = Stepping::End;
-    let mut moves: u64 = 0;
-    while moves < total {
-        if disks {
-            let stepped = pegs.step();
-            pegs = stepped.towers;
-            answer = stepped.answer;
-        } else {
-            let stepped = ahead.step();
-            ahead = stepped.walk;
-            answer = stepped.answer;
-        }
-        let Stepping::Moved(_, _) = answer else {
+    let mut parts: u64 = 0;
+    while parts <= total / 4096 {
+        let part = run_part(ahead, pegs, disks, &mut bytes);
+        ahead = part.walk;
+        pegs = part.towers;
+        let answer = part.answer;
+        let Running::Made(_) = answer else {
             let word = if disks { pegs.word } else { ahead.word };
             return Finish {
                 word: word,
-                moves: moves,
+                parts: parts,
                 answer: answer,
             };
         };
-        moves += 1;
+        parts += 1;
     }
     Finish {
         word: [0; 48],
-        moves: moves,
-        answer: Stepping::Refused(0),
+        parts: parts,
+        answer: Running::Refused(0),
     }
+}
+
+// The moves of whole parts and of the last run. N is at most 2^62, so that nothing is cut off here.
+fn moves_in(parts: u64, last: u64) -> u64 {
+    parts % 0x0008_0000_0000_0000 * 4096 + last % 4096
 }
 
 fn print_number(n: u64) {
@@ -68,6 +97,16 @@ fn print_refused(k: u8) {
     print(b"refused ");
     print_number(wide(k));
     print(b"\n");
+}
+
+// What stopped or refused a run; 0 where nothing did.
+fn number(answer: Running) -> u8 {
+    match answer {
+        Running::Made(_) => 0,
+        Running::Ended(_) => 0,
+        Running::Stopped(_, k) => k,
+        Running::Refused(k) => k,
+    }
 }
 
 // A setting: its first n digits, the last of them first, joined by points.
@@ -88,12 +127,12 @@ fn print_finish(n: usize, finish: Finish)
     requires { ⌜ n ≤ 48 ⌝ }
 {
     let answer = finish.answer;
-    if let Stepping::Refused(k) = answer {
-        print_refused(k);
+    let Running::Ended(last) = answer else {
+        print_refused(number(answer));
         return;
-    }
+    };
     print(b"moves ");
-    print_number(finish.moves);
+    print_number(moves_in(finish.parts, last));
     print(b" last ");
     let word = finish.word;
     print_word(word, n);

@@ -1,2 +1,2 @@
 -- What private functions answer.
-pub mod Stages
+pub mod Enums

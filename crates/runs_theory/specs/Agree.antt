@@ -1,172 +1,262 @@
 -- What both engines write is held to the list, and so to each other: two controllers, one on each, send their motors the same moves.
-use Prim.Native.Nat.{ℕ, zero, suc, _-_, _*_, _≤_, _<_}
-use native.Mathlib.Omega.{arith}
-use mathlib.Core.Path.{_≡_, refl, sym, ap, _∙_}
-use mathlib.Core.Bool.{true}
-use mathlib.Core.List.{List, [], _∷_}
+use Prim.Native.Nat.{ℕ, zero, suc, _+_, _-_, _*_, _≤_, _<_}
 use native.Mathlib.Decide.{decLt}
-use lib.ListN.{length, take}
-use Rattle.gray_theory.specs.Answers.{Answer, given}
+use native.Mathlib.Numerals.{add-one}
+use native.Mathlib.Omega.{arith}
+use mathlib.Core.Path.{_≡_, refl, sym, ap, subst, _∙_}
+use mathlib.Core.Bool.{Bool, true, cond}
+use mathlib.Core.List.{List, [], _∷_, _++_}
+use borrow.Author.Tests.{lt-ltb, le-ltb}
+use lib.Dec.{ltb}
+use lib.ListN.{length, drop}
+use Rattle.gray_theory.specs.Answers.{Answer, given, refused}
 use Rattle.gray_theory.specs.MoveBytes.{moveByte}
 use Rattle.gray_theory.specs.Changes.{change}
 use Rattle.gray_theory.specs.Radices.{digits, size, allFrom}
 use Rattle.gray_theory.specs.Sizes.{size-pos}
 use Rattle.gray_theory.specs.Locks.{unlocked}
-use Rattle.gray_theory.specs.Engines.{Event, moved, Handed, after, answerOf}
+use Rattle.gray_theory.specs.Engines.{Event, moved, ended, Handed, after, answerOf}
+use Rattle.gray_theory.specs.RunCalls.{Stop, nothing, end, refusal, Ran, Running, runFrom, runRefused, runMakes, runWith}
+use Rattle.gray_theory.specs.SingleCalls.{run-in-range-is-made}
+use Rattle.gray_theory.specs.RunLaws.{Moved, moved-none, moved-more, all-made, ends-there, refused-there}
+use Rattle.ahead_theory.specs.States as walks
 use Rattle.ahead_theory.specs.Calls as ahead
 use Rattle.ahead_theory.specs.Openings as ahead-opens
-use Rattle.ahead_theory.specs.WorkAhead.{fresh-walks-work-ahead}
+use Rattle.ahead_theory.specs.WorkAhead.{fresh-walks-work-ahead, fresh-walks-stay-in-range}
+use Rattle.towers_theory.specs.States as games
 use Rattle.towers_theory.specs.Calls as towers
 use Rattle.towers_theory.specs.Openings as towers-opens
 use Rattle.towers_theory.specs.Walks.{disks-walk-the-list}
-use Rattle.runs_theory.specs.Runs.{moveThen, movesFrom, runOf, walkMovesCall, diskMovesCall, listMoves}
+use Rattle.runs_theory.specs.Runs.{Moves, openedRun, walkMovesCall, diskMovesCall, listMoves}
 
--- calls 1 to d − 1 of a run name their changes, and no later one moves
-pub record StopsAt {S : Type 0} (call : S → Handed S Event) (ms : List ℕ) (s : S) (d : ℕ) : Type 0 where
+-- ---- what is written
+-- the first moves of the list: all that are asked for, where call d, which does not move, comes after them; else the d − 1 before it,
+-- and what stopped them
+abbrev pub firstMoves : List ℕ → ℕ → ℕ → List ℕ
+firstMoves ms d t = cond (ltb t d) (listMoves ms 0 t) (listMoves ms 0 (d - 1))
+
+abbrev pub firstStop : ℕ → Stop → ℕ → Stop
+firstStop d stop t = cond (ltb t d) nothing stop
+
+-- the call that writes them: 9 where the lent memory does not hold t bytes
+abbrev pub writesFirst : List ℕ → ℕ → Stop → ℕ → List ℕ → Moves
+writesFirst ms d stop t out =
+    let moves = firstMoves ms d t in
+    cond (ltb (length out) t) (record { answer = refused 9; out = out })
+    (record { answer = given (record { made = length moves; stop = firstStop d stop t }); out = moves ++ drop (length moves) out })
+
+-- ---- a run that stops at call d
+-- what a call that does not move stops a run with
+pub data Halts (a : Answer Event) (stop : Stop) : Type 0 where
+  ends : a ≡ given ended → stop ≡ end → Halts a stop
+  refuses : (k : ℕ) → a ≡ refused k → stop ≡ refusal k → Halts a stop
+
+-- calls 1 to d − 1 name their changes, and call d does not move
+pub record StopsAt {S : Type 0} (call : S → Handed S Event) (ms : List ℕ) (s : S) (d : ℕ) (stop : Stop) : Type 0 where
   pub from-one : 1 ≤ d
   pub moves : (j : ℕ) → 1 ≤ j → j < d → answerOf call s j ≡ given (moved (change ms j))
-  pub stops : (j : ℕ) → d ≤ j → (rest : List ℕ) → moveThen (answerOf call s j) rest ≡ []
+  pub halts : Halts (answerOf call s d) stop
 
--- one call more, with the bytes of the calls after it
-one-more : {S : Type 0} (call : S → Handed S Event) (ms : List ℕ) (s : S) (d : ℕ)
-    → StopsAt call ms s d
-    → (k j : ℕ)
-    → suc j < d
-    → movesFrom call (after call s (suc j)) k ≡ take k (listMoves ms (suc j) (d - 1 - suc j))
-    → movesFrom call (after call s j) (suc k) ≡ take (suc k) (listMoves ms j (d - 1 - j))
-unfolding movesFrom listMoves after
-one-more call ms s d run k j more rest =
-    let here : suc j - 1 ≡ j = omega arith in
-    let left : d - 1 - j ≡ suc (d - 1 - suc j) = omega arith in
-    let says : call (after call s j) .answer ≡ given (moved (change ms (suc j)))
-    = ap (λ (i : ℕ). call (after call s i) .answer) (sym here) ∙ run .moves (suc j) (omega arith) more in
-    ap (λ (a : Answer Event). moveThen a (movesFrom call (after call s (suc j)) k)) says
-    ∙ ap (λ l. moveByte (change ms (suc j) .digit) (change ms (suc j) .down) ∷ l) rest
-    ∙ ap (λ t. take (suc k) (listMoves ms j t)) (sym left)
+-- one move more at the end
+more-moves : (ms : List ℕ) (j t : ℕ)
+    → listMoves ms j (suc t) ≡ listMoves ms j t ++ (moveByte (change ms (j + suc t) .digit) (change ms (j + suc t) .down) ∷ [])
+unfolding listMoves
+more-moves ms j zero = let z : suc j ≡ j + 1 = omega arith in ap (λ (i : ℕ). moveByte (change ms i .digit) (change ms i .down) ∷ []) z
+more-moves ms j (suc t) =
+    let z : suc j + suc t ≡ j + suc (suc t) = omega arith in
+    ap (λ (l : List ℕ). moveByte (change ms (suc j) .digit) (change ms (suc j) .down) ∷ l)
+    (more-moves ms (suc j) t
+    ∙ ap (λ (i : ℕ). listMoves ms (suc j) t ++ (moveByte (change ms i .digit) (change ms i .down) ∷ [])) z)
 
--- no call more: the run is at its last move
-no-more : {S : Type 0} (call : S → Handed S Event) (ms : List ℕ) (s : S) (d : ℕ)
-    → StopsAt call ms s d
-    → (k j : ℕ)
-    → j < d
-    → (suc j < d → ⊥)
-    → movesFrom call (after call s j) (suc k) ≡ take (suc k) (listMoves ms j (d - 1 - j))
-unfolding movesFrom listMoves
-no-more call ms s d run k j h last =
-    let here : suc j - 1 ≡ j = omega arith in
-    let none : d - 1 - j ≡ 0 = omega (arith, last) in
-    let stop : d ≤ suc j = omega (arith, last) in
-    ap (λ (i : ℕ). moveThen (call (after call s i) .answer) (movesFrom call (call (after call s j) .state) k)) (sym here)
-    ∙ run .stops (suc j) stop (movesFrom call (call (after call s j) .state) k)
-    ∙ ap (λ t. take (suc k) (listMoves ms j t)) (sym none)
+module _ {S : Type 0} (call : S → Handed S Event) (ms : List ℕ) (s : S) (d : ℕ) (stop : Stop) (run : StopsAt call ms s d stop) where
+  -- the calls before call d write the list's moves
+  moved-so-far : (k : ℕ) → k < d → Moved call s k (listMoves ms 0 k)
+  unfolding listMoves
+  moved-so-far zero h = moved-none call s
+  moved-so-far (suc k) h =
+      let here : suc k - 1 ≡ k = omega arith in
+      let next : 0 + suc k ≡ suc k = omega arith in
+      let says : call (after call s k) .answer ≡ given (moved (change ms (suc k)))
+      = ap (λ (i : ℕ). call (after call s i) .answer) (sym here) ∙ run .moves (suc k) (omega arith) h in
+      subst (λ (l : List ℕ). Moved call s (suc k) l)
+      (sym (more-moves ms 0 k ∙ ap (λ (i : ℕ). listMoves ms 0 k ++ (moveByte (change ms i .digit) (change ms i .down) ∷ [])) next))
+      (subst (λ (i : ℕ). Moved call s i (listMoves ms 0 k ++ (moveByte (change ms (suc k) .digit) (change ms (suc k) .down) ∷ [])))
+      (add-one k)
+      (moved-more call s k (listMoves ms 0 k) (change ms (suc k)) (moveByte (change ms (suc k) .digit) (change ms (suc k) .down))
+      (moved-so-far k (omega arith))
+      says
+      refl))
 
--- Such a run writes the list's first d − 1 moves, or as many of them as there is room for.
-run-writes : {S : Type 0} (call : S → Handed S Event) (ms : List ℕ) (s : S) (d : ℕ)
-    → StopsAt call ms s d
-    → (k j : ℕ)
-    → j < d
-    → movesFrom call (after call s j) k ≡ take k (listMoves ms j (d - 1 - j))
-unfolding movesFrom
-run-writes call ms s d run zero j h = refl
-run-writes call ms s d run (suc k) j h =
-    elim (decLt (suc j) d) [
-      | yes more ↦ one-more call ms s d run k j more (run-writes call ms s d run k (suc j) more)
-      | no last ↦ no-more call ms s d run k j h last
-    ]
+  -- fewer calls than d: all of them move
+  pub run-all : (t : ℕ) → t < d → runFrom call s t ≡ record { state = after call s t; bytes = listMoves ms 0 t; stop = nothing }
+  run-all t h = all-made call s t t (listMoves ms 0 t) (moved-so-far t h) refl
 
-run-from-start : {S : Type 0} (call : S → Handed S Event) (ms : List ℕ) (s : S) (d : ℕ)
-    → StopsAt call ms s d
-    → (room : ℕ)
-    → movesFrom call s room ≡ take room (listMoves ms 0 (d - 1))
-unfolding after
-run-from-start call ms s d run room =
-    let all : d - 1 - 0 ≡ d - 1 = omega arith in
-    let h : 0 < d = run .from-one in
-    run-writes call ms s d run room 0 h ∙ ap (λ t. take room (listMoves ms 0 t)) all
+  -- call d is reached
+  run-halted : (t : ℕ)
+      → d ≤ t
+      → runFrom call s t ≡ record { state = call (after call s (d - 1)) .state; bytes = listMoves ms 0 (d - 1); stop = stop }
+  run-halted t h = by (run .halts)
+    where
+      last : Ran S
+      last = record { state = call (after call s (d - 1)) .state; bytes = listMoves ms 0 (d - 1); stop = stop }
 
-some-word : (ms : List ℕ) → allFrom 1 ms ≡ true → 1 ≤ size ms
-some-word ms one = size-pos ms one
+      with : Stop → Ran S
+      with x = record { state = call (after call s (d - 1)) .state; bytes = listMoves ms 0 (d - 1); stop = x }
 
--- what an accepted opening and the calls after it write
-run-of-opened : {S : Type 0} (call : S → Handed S Event) (ms : List ℕ) (opened : Handed S Unit) (d room : ℕ)
-    → opened .answer ≡ given tt
-    → StopsAt call ms (opened .state) d
-    → runOf call (opened .answer) (opened .state) room ≡ given (take room (listMoves ms 0 (d - 1)))
-run-of-opened {S} call ms opened d room accepted run =
-    ap (λ (a : Answer Unit). runOf call a (opened .state) room) accepted
-    ∙ ap given (run-from-start call ms (opened .state) d run room)
+      one : 1 ≤ d
+      one = run .from-one
 
--- With half of n places, rounded up, the buffered engine writes the list's moves 1 to N − 1, or as many of them as there is room
--- for.
-pub walk-moves-are-the-lists : (radices : List ℕ) (c room : ℕ)
-    → ahead.openOf ahead.closedWalk radices c .answer ≡ given tt
-    → length (unlocked (digits radices)) ≤ 2 * c
-    → walkMovesCall radices c room ≡ given (take room (listMoves (digits radices) 0 (size (digits radices) - 1)))
-unfolding walkMovesCall
-walk-moves-are-the-lists radices c room accepted places =
-    let ms = digits radices in
-    let walks = fresh-walks-work-ahead ahead.closedWalk radices c accepted .never-dry places in
-    run-of-opened ahead.stepOf ms (ahead.openOf ahead.closedWalk radices c) (size ms) room accepted
-    (record {
-      from-one = some-word ms (ahead-opens.opens-exactly ahead.closedWalk radices c .0 accepted .survey .one);
-      moves = λ j a b. walks .moves j a b .answers;
-      stops = λ j h rest. ap (λ (a : Answer Event). moveThen a rest) (walks .end j h);
-    })
+      by : Halts (answerOf call s d) stop → runFrom call s t ≡ last
+      by (ends says is) =
+          let o = one in
+          ends-there call s (d - 1) t (listMoves ms 0 (d - 1)) (moved-so-far (d - 1) (omega arith)) (omega arith) says
+          ∙ ap with (sym is)
+      by (refuses k says is) =
+          let o = one in
+          refused-there call s (d - 1) t (listMoves ms 0 (d - 1)) (moved-so-far (d - 1) (omega arith)) (omega arith) k says
+          ∙ ap with (sym is)
 
--- Whatever its capacity, it writes moves of the list, from the first on without a gap: the first d − 1, or as many of them as there is
--- room for, with a d from 1 to N. This alone does not say which d: demand 3 does, where call d is the end or dry.
+  -- what an opening and the run after it write
+  writes-first : (inRange : S → Bool)
+      → inRange s ≡ true
+      → (t : ℕ) (out : List ℕ)
+      → openedRun (given tt) (runWith inRange call s t out) out ≡ writesFirst ms d stop t out
+  unfolding runWith
+  writes-first inRange ranged t out =
+      elim (decLt (length out) t) [
+        | yes short ↦ rw (ranged, lt-ltb (length out) t short)
+        | no fits ↦
+            elim (decLt t d) [
+              | yes less ↦ rw (ranged, le-ltb (length out) t (omega (arith, fits)), run-all t less, lt-ltb t d less)
+              | no more ↦
+                  let h : d ≤ t = omega (arith, more) in
+                  rw (ranged, le-ltb (length out) t (omega (arith, fits)), run-halted t h, le-ltb t d h)
+            ]
+      ]
+
+-- ---- the buffered engine
+module _ (radices : List ℕ) (c : ℕ) (accepted : ahead.openOf ahead.closedWalk radices c .answer ≡ given tt) where
+  abbrev ms : List ℕ
+  ms = digits radices
+
+  abbrev walk : walks.Walk
+  walk = ahead.openOf ahead.closedWalk radices c .state
+
+  walk-writes : (d : ℕ) (stop : Stop) → StopsAt ahead.stepOf ms walk d stop → (t : ℕ) (out : List ℕ)
+      → walkMovesCall radices c t out ≡ writesFirst ms d stop t out
+  unfolding walkMovesCall after
+  walk-writes d stop run t out =
+      ap (λ (a : Answer Unit). openedRun a (ahead.runOf walk t out) out) accepted
+      ∙ writes-first ahead.stepOf ms walk d stop run walks.inRange
+      (fresh-walks-stay-in-range ahead.closedWalk radices c accepted .in-range 0)
+      t
+      out
+
+  -- with half of the moving digits' number of places, rounded up, the run ends at call N
+  ends-at-N : length (unlocked ms) ≤ 2 * c → StopsAt ahead.stepOf ms walk (size ms) end
+  ends-at-N places =
+      let walks = fresh-walks-work-ahead ahead.closedWalk radices c accepted .never-dry places in
+      record {
+        from-one = size-pos ms (ahead-opens.opens-exactly ahead.closedWalk radices c .0 accepted .survey .one);
+        moves = λ j a b. walks .moves j a b .answers;
+        halts = ends (walks .end (size ms) (omega arith)) refl;
+      }
+
+  -- With half of n places, rounded up, the buffered engine writes the list's moves 1 to N − 1, or as many of them as are asked for;
+  -- it says end exactly where more are asked for.
+  pub walk-moves-are-the-lists : length (unlocked ms) ≤ 2 * c → (t : ℕ) (out : List ℕ)
+      → walkMovesCall radices c t out ≡ writesFirst ms (size ms) end t out
+  walk-moves-are-the-lists places = walk-writes (size ms) end (ends-at-N places)
+
+  -- With fewer places there is a d from 1 to N: it writes the list's moves 1 to d − 1, or as many of them as are asked for, and where
+  -- more are asked for it has stopped with 10.
+  pub walk-moves-run-dry : 2 * c < length (unlocked ms)
+      → (d : ℕ)
+      × (1 ≤ d)
+      × (d ≤ size ms)
+      × ((t : ℕ) (out : List ℕ) → walkMovesCall radices c t out ≡ writesFirst ms d (refusal 10) t out)
+  walk-moves-run-dry few =
+      let (d, dries) = fresh-walks-work-ahead ahead.closedWalk radices c accepted .dry-within-N few in (
+        d,
+        dries .from-one,
+        dries .within-N,
+        walk-writes d (refusal 10)
+            (record {
+              from-one = dries .from-one;
+              moves = λ j x y. dries .moves j x y .answers;
+              halts = refuses 10 (dries .dry d (omega arith)) refl;
+            }),
+      )
+
+  -- A run of t moves of a fresh walk with places enough, t at most N − 1, makes them all: its bytes are the list's first t changes, the
+  -- state is that after t calls, and nothing is said of the end.
+  pub fresh-run-writes-the-list : length (unlocked ms) ≤ 2 * c → (t : ℕ) (out : List ℕ)
+      → t ≤ size ms - 1
+      → t ≤ length out
+      → ahead.runOf walk t out
+      ≡ runMakes (record { state = after ahead.stepOf walk t; bytes = listMoves ms 0 t; stop = nothing }) out
+  unfolding after
+  fresh-run-writes-the-list places t out h fits =
+      let run = ends-at-N places in
+      let one = run .from-one in
+      run-in-range-is-made walks.inRange ahead.stepOf walk t out
+      (fresh-walks-stay-in-range ahead.closedWalk radices c accepted .in-range 0)
+      fits
+      ∙ ap (λ (r : Ran walks.Walk). runMakes r out) (run-all ahead.stepOf ms walk (size ms) end run t (omega arith))
+
+-- Whatever its capacity, it writes moves of the list, from the first on without a gap.
 pub walk-moves-begin-the-list : (radices : List ℕ) (c : ℕ)
     → ahead.openOf ahead.closedWalk radices c .answer ≡ given tt
     → (d : ℕ)
+    × (stop : Stop)
     × (1 ≤ d)
     × (d ≤ size (digits radices))
-    × ((room : ℕ) → walkMovesCall radices c room ≡ given (take room (listMoves (digits radices) 0 (d - 1))))
-unfolding walkMovesCall
+    × ((t : ℕ) (out : List ℕ) → walkMovesCall radices c t out ≡ writesFirst (digits radices) d stop t out)
 walk-moves-begin-the-list radices c accepted =
-    let ms = digits radices in
-    let works = fresh-walks-work-ahead ahead.closedWalk radices c accepted in
-    elim (decLt (2 * c) (length (unlocked ms))) [
+    let n = size (digits radices) in
+    elim (decLt (2 * c) (length (unlocked (digits radices)))) [
       | yes few ↦ (
-          let (d, dries) = works .dry-within-N few in (
-            d,
-            dries .from-one,
-            dries .within-N,
-            λ room. run-of-opened ahead.stepOf ms (ahead.openOf ahead.closedWalk radices c) d room accepted
-                (record {
-                  from-one = dries .from-one;
-                  moves = λ j x y. dries .moves j x y .answers;
-                  stops = λ j h rest. ap (λ (a : Answer Event). moveThen a rest) (dries .dry j h);
-                }),
-          )
+          let (d, one, within, writes) = walk-moves-run-dry radices c accepted few in (d, refusal 10, one, within, writes)
           )
       | no enough ↦ (
-        size ms,
-        some-word ms (ahead-opens.opens-exactly ahead.closedWalk radices c .0 accepted .survey .one),
+        n,
+        end,
+        size-pos (digits radices) (ahead-opens.opens-exactly ahead.closedWalk radices c .0 accepted .survey .one),
         omega arith,
-        λ room. walk-moves-are-the-lists radices c room accepted (omega (arith, enough)),
+        walk-moves-are-the-lists radices c accepted (omega (arith, enough)),
       )
     ]
 
--- The disk engine writes the list's moves 1 to N − 1 of every survey that it opens.
-pub disk-moves-are-the-lists : (radices : List ℕ) (room : ℕ)
+-- ---- the disk engine
+-- It writes the list's moves 1 to N − 1 of every survey that it opens, or as many of them as are asked for; it says end exactly where
+-- more are asked for.
+pub disk-moves-are-the-lists : (radices : List ℕ)
     → towers.openOf towers.closedTowers radices .answer ≡ given tt
-    → diskMovesCall radices room ≡ given (take room (listMoves (digits radices) 0 (size (digits radices) - 1)))
-unfolding diskMovesCall
-disk-moves-are-the-lists radices room accepted =
+    → (t : ℕ) (out : List ℕ)
+    → diskMovesCall radices t out ≡ writesFirst (digits radices) (size (digits radices)) end t out
+unfolding diskMovesCall after
+disk-moves-are-the-lists radices accepted t out =
     let ms = digits radices in
+    let opened = towers.openOf towers.closedTowers radices in
     let walks = disks-walk-the-list towers.closedTowers radices accepted in
-    run-of-opened towers.stepOf ms (towers.openOf towers.closedTowers radices) (size ms) room accepted
+    ap (λ (a : Answer Unit). openedRun a (towers.runOf (opened .state) t out) out) accepted
+    ∙ writes-first towers.stepOf ms (opened .state) (size ms) end
     (record {
-      from-one = some-word ms (towers-opens.opens-exactly towers.closedTowers radices .0 accepted .survey .one);
+      from-one = size-pos ms (towers-opens.opens-exactly towers.closedTowers radices .0 accepted .survey .one);
       moves = λ j a b. walks .moves j a b .answers;
-      stops = λ j h rest. ap (λ (a : Answer Event). moveThen a rest) (walks .end j h .answers);
+      halts = ends (walks .end (size ms) (omega arith) .answers) refl;
     })
+    games.inRange
+    (walks .in-range 0)
+    t
+    out
 
--- Two controllers, one on each engine, agree on every move.
-pub engines-agree : (radices : List ℕ) (c room : ℕ)
+-- Two controllers, one on each engine, agree on every move, on every end and on every refusal.
+pub engines-agree : (radices : List ℕ) (c : ℕ)
     → ahead.openOf ahead.closedWalk radices c .answer ≡ given tt
     → length (unlocked (digits radices)) ≤ 2 * c
     → towers.openOf towers.closedTowers radices .answer ≡ given tt
-    → walkMovesCall radices c room ≡ diskMovesCall radices room
-engines-agree radices c room walk places disks =
-    walk-moves-are-the-lists radices c room walk places ∙ sym (disk-moves-are-the-lists radices room disks)
+    → (t : ℕ) (out : List ℕ)
+    → walkMovesCall radices c t out ≡ diskMovesCall radices t out
+engines-agree radices c walk places disks t out =
+    walk-moves-are-the-lists radices c walk places t out ∙ sym (disk-moves-are-the-lists radices disks t out)

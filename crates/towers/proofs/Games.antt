@@ -1,36 +1,89 @@
 -- What the moves of the game come to on each path of their code, and what a search for a disk has found, over plain numbers and
 -- tests. Assumes nothing.
 use Prim.Native.Nat.{ℕ, _+_, _-_, _%_, _≤_, _<_}
-use native.Mathlib.Decide.{decLt}
+use native.Mathlib.Decide.{decLt, ℕ-discrete}
 use native.Mathlib.Numerals.{add-one}
 use native.Mathlib.Omega.{arith}
-use mathlib.Core.Path.{_≡_, sym}
-use mathlib.Core.Bool.{Bool, true, false, cond, _||_}
-use borrow.Author.Tests.{eq-eqb, ne-eqb, lt-ltb, le-ltb}
-use lib.Dec.{eqb}
+use mathlib.Core.Path.{_≡_, refl, sym, ap, _∙_}
+use mathlib.Core.Bool.{Bool, true, false, cond, _&&_, not, and-eq-true-iff}
+use mathlib.Core.Option.{Option, some}
+use borrow.Author.Tests.{eq-eqb, ne-eqb, eqb-true, leb-true, lt-ltb, le-ltb}
+use lib.Dec.{eqb, leb}
 use Rattle.gray_theory.specs.Bools.{impossible}
-use Rattle.towers_theory.specs.Choices.{sidePeg, onPair, smallest}
+use Rattle.gray_theory.specs.Directions.{movedFrom, turnedAt, digitInRange}
+use Rattle.gray_theory.specs.DigitRanges.{digit-says}
+use Rattle.digit.specs.Advances.{advancedFrom, digit-advanced}
+use Rattle.digit.proofs.Laws.{room-below, room-above}
+use Rattle.towers_theory.specs.Choices.{sidePeg, onPair, sweeping, smallest}
 use Rattle.towers_theory.specs.Calls.{turnBy, pegAfter}
 use Rattle.towers.specs.Stages.{found}
 use Rattle.towers_theory.specs.Smallest.{smallest-none, smallest-some}
 
 -- ---- three pegs
-module _ (m a : ℕ) where
-  pub side-left : a ≡ 0 → 0 ≡ sidePeg m a
-  side-left z = rw (eq-eqb a 0 z)
+module _ (turn m a : ℕ) where
+  -- notch 0 is not the last one
+  pub left-pair : 2 ≤ m → turn ≡ 0 → not (eqb a (m - 1)) ≡ onPair turn (sidePeg m a)
+  left-pair two z =
+      rw (eq-eqb turn 0 z)
+      (by (eqb a 0) (eqb a (m - 1)) (λ e. let first = eqb-true a 0 e in ne-eqb a (m - 1) (λ last. omega arith)))
+    where
+      by : (b c : Bool) → (b ≡ true → c ≡ false) → not c ≡ onPair 0 (cond b 0 (cond c 2 1))
+      by true true apart = impossible (cc (apart refl))
+      by true false apart = refl
+      by false true apart = refl
+      by false false apart = refl
 
-  pub side-right : (a ≡ 0 → ⊥) → a ≡ m - 1 → 2 ≡ sidePeg m a
-  side-right nz t = rw (ne-eqb a 0 nz, eq-eqb a (m - 1) t)
+  pub right-pair : (turn ≡ 0 → ⊥) → not (eqb a 0) ≡ onPair turn (sidePeg m a)
+  right-pair nz = rw (ne-eqb turn 0 nz) (by (eqb a 0) (eqb a (m - 1)))
+    where
+      by : (b c : Bool) → not b ≡ onPair 1 (cond b 0 (cond c 2 1))
+      by true c = refl
+      by false true = refl
+      by false false = refl
 
-  pub side-middle : (a ≡ 0 → ⊥) → (a ≡ m - 1 → ⊥) → 1 ≡ sidePeg m a
-  side-middle nz nt = rw (ne-eqb a 0 nz, ne-eqb a (m - 1) nt)
+-- ---- the move of a digit
+module _ (m a : ℕ) (down : Bool) (stands : leb 2 m && digitInRange m a down ≡ true) where
+  two : 2 ≤ m
+  two = leb-true 2 m (and-eq-true-iff (leb 2 m) (digitInRange m a down) .0 stands .0)
 
-module _ (turn peg : ℕ) where
-  pub left-pair : turn ≡ 0 → (eqb peg 0 || eqb peg 1) ≡ onPair turn peg
-  left-pair z = rw (eq-eqb turn 0 z)
+  ranged : digitInRange m a down ≡ true
+  ranged = and-eq-true-iff (leb 2 m) (digitInRange m a down) .0 stands .1
 
-  pub right-pair : (turn ≡ 0 → ⊥) → (eqb peg 1 || eqb peg 2) ≡ onPair turn peg
-  right-pair nz = rw (ne-eqb turn 0 nz)
+  pub room-down : down ≡ true → 1 ≤ a
+  room-down = room-below m a down two ranged
+
+  pub room-up : down ≡ false → a + 1 < m
+  room-up = room-above m a down two ranged
+
+  goes : (d : Bool) (turned : Bool)
+      → down ≡ d
+      → turned ≡ turnedAt m (movedFrom a d) d
+      → record { digit = movedFrom a d; down = turned } ≡ advancedFrom m a down
+  goes d turned e f =
+      ap (λ b. record { digit = movedFrom a d; down = b }) f
+      ∙ sym (ap (λ b. record { digit = movedFrom a b; down = turnedAt m (movedFrom a b) b }) e)
+      ∙ sym (digit-advanced m a down stands)
+
+  pub goes-down : down ≡ true → record { digit = a - 1; down = not (eqb a 1) } ≡ advancedFrom m a down
+  goes-down d =
+      let low = room-down d in
+      let below = digit-says m a down ranged .below in
+      goes true (not (eqb a 1)) d
+      (elim (ℕ-discrete a 1) [
+        | yes e ↦ let end : a - 1 ≡ 0 = omega arith in rw (eq-eqb a 1 e, eq-eqb (a - 1) 0 end)
+        | no n ↦ rw (ne-eqb a 1 n, ne-eqb (a - 1) 0 (λ z. omega arith), ne-eqb (a - 1) (m - 1) (λ z. omega arith))
+      ])
+
+  pub goes-up : down ≡ false → record { digit = a + 1; down = eqb (a + 2) m } ≡ advancedFrom m a down
+  goes-up d =
+      let high = room-up d in
+      goes false (eqb (a + 2) m) d
+      (elim (ℕ-discrete (a + 2) m) [
+        | yes e ↦
+            let end : a + 1 ≡ m - 1 = omega arith in
+            rw (eq-eqb (a + 2) m e, ne-eqb (a + 1) 0 (λ z. omega arith), eq-eqb (a + 1) (m - 1) end)
+        | no n ↦ rw (ne-eqb (a + 2) m n, ne-eqb (a + 1) 0 (λ z. omega arith), ne-eqb (a + 1) (m - 1) (λ z. n (omega arith)))
+      ])
 
 -- ---- the ring
 module _ (m i peg : ℕ) where
@@ -68,6 +121,14 @@ module _ (n : ℕ) (test : ℕ → Bool) where
 
   pub found-none : (i : ℕ) → n ≤ i → NoneBelow i test → found n n ≡ smallest n test
   found-none i h before = rw (le-ltb n n (omega arith)) (sym (smallest-none n test (λ k below. before k (omega arith))))
+
+-- on a ring, in a sweep and after it
+module _ (n m turn : ℕ) (other : Option ℕ) where
+  pub first-found : 0 < n → turn < m - 1 → found n 0 ≡ cond (sweeping m turn) (some 0) other
+  first-found some-one h = rw (lt-ltb 0 n some-one, lt-ltb turn (m - 1) h)
+
+  pub other-found : (i : ℕ) → m - 1 ≤ turn → found n i ≡ other → found n i ≡ cond (sweeping m turn) (some 0) other
+  other-found i h e = e ∙ sym (ap (λ b. cond b (some 0) other) (le-ltb turn (m - 1) h))
 
 -- ---- the turn
 pub one-of-two : (odd : Bool) (m turn : ℕ) → turn < cond odd 2 m → odd ≡ true → turn ≤ 1

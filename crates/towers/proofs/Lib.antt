@@ -2,4 +2,5 @@
 pub mod Games
 pub mod Plays
 pub mod Ranges
+pub mod Runs
 pub mod Steps

@@ -20,7 +20,7 @@ use Rattle.towers_theory.specs.States.{Towers, allOdd, common, survey, disks, i
 use Rattle.towers_theory.specs.Choices.{sidePeg, digitOf, pegOf, smallest, onPair, sweeping, isTop, elsewhere}
 use Rattle.towers_theory.specs.Choices.{chosenOnPair, chosenOnRing, chosen}
 use Rattle.towers_theory.specs.Calls.{turnBy, turnAfter, pegAfter, pegsAfter, moveOf, moveBy, stepOf}
-use Rattle.towers.specs.Stages.{found, PairDisks, surveyFits, lastRadix, DigitAt}
+use Rattle.towers.specs.Stages.{found, PairDisks, surveyFits, lastRadix, DigitAt, Movable}
 use Rattle.towers_theory.specs.Smallest.{smallest-same, smallest-elsewhere-is-top}
 use Rattle.towers_theory.specs.Openings.{openable}
 use Rattle.towers_theory.specs.InRange.{Arrays, RangeSays, range-says, some-disk, DiskDigit}
@@ -30,6 +30,12 @@ use Rattle.towers.proofs.Ranges.{Fits, says-fits, ranged-fits, disk-cou
 under-cond : {A : Type 0} (b : Bool) (x y z : A) → (b ≡ false → y ≡ z) → cond b x y ≡ cond b x z
 under-cond true x y z same = refl
 under-cond false x y z same = same refl
+
+-- the pegs as a step stores them: for odd counts each as it came
+pub pegs-stored : (pegs : List ℕ) (i : ℕ) (odd : Bool) (peg : ℕ)
+    → set pegs i (cond odd (getD pegs i 0) peg) ≡ cond odd pegs (set pegs i peg)
+pegs-stored pegs i true peg = set-getD pegs i 0
+pegs-stored pegs i false peg = refl
 
 module _ (s : Towers) (long : Arrays s) (ranged : inRange s ≡ true) where
   says : RangeSays s
@@ -76,9 +82,8 @@ module _ (s : Towers) (long : Arrays s) (ranged : inRange s ≡ true) where
     abbrev ringChoice : Bool → Option ℕ
     ringChoice sweep = cond sweep (some 0) (smallest (s .moving .count) (λ i. isTop s i && elsewhere s i))
 
-    ring-by : (sweep : Bool) → allOdd (disks s) ≡ false → sweeping m (s .turn) ≡ sweep → ringChoice sweep ≡ chosen s
-    ring-by sweep ring e =
-        sym (ap ringChoice (ap (λ n. sweeping n (s .turn)) (leads .ring ring) ∙ e)) ∙ chosen-by false ring
+    ring-by : allOdd (disks s) ≡ false → ringChoice (sweeping m (s .turn)) ≡ chosen s
+    ring-by ring = sym (ap ringChoice (ap (λ n. sweeping n (s .turn)) (leads .ring ring))) ∙ chosen-by false ring
 
     -- there is a disk
     pub first-disk : not (even m) ≡ false → 0 < s .moving .count
@@ -87,26 +92,21 @@ module _ (s : Towers) (long : Arrays s) (ranged : inRange s ≡ true) where
         let many = disk-count s long fits in
         omega arith
 
-    pub chooses-in-sweep : not (even m) ≡ false → s .turn < m - 1 → found (s .moving .count) 0 ≡ chosen s
-    chooses-in-sweep e h =
-        ap (λ b. cond b (some 0) none) (lt-ltb 0 (s .moving .count) (first-disk e))
-        ∙ ring-by true (leads .odd ∙ e) (lt-ltb (s .turn) (m - 1) h)
-
     -- the code counts the disks as a wide number, and looks at the first k places of its arrays
     module _ (k : ℕ) (wide : k ≡ s .moving .count) where
-      -- what is found among the first k places is found among the disks
-      found-among : (l : List ℕ) (r : ℕ) (f g : ℕ → Bool)
+      -- what is found among the first k places, at once or by a test, is found among the disks
+      found-among : (l : List ℕ) (r : ℕ) (at-once : Bool) (f g : ℕ → Bool)
           → length l ≡ 48
-          → found (length (take k l)) r ≡ smallest (length (take k l)) f
+          → found (length (take k l)) r ≡ cond at-once (some 0) (smallest (length (take k l)) f)
           → ((i : ℕ) → i < k → f i ≡ g i)
-          → found (s .moving .count) r ≡ smallest (s .moving .count) g
-      found-among l r f g room e same =
+          → found (s .moving .count) r ≡ cond at-once (some 0) (smallest (s .moving .count) g)
+      found-among l r at-once f g room e same =
           let most = count-fits in
           let count : length (take k l) ≡ s .moving .count = length-take-le k l (omega arith) ∙ wide in
           sym (ap (λ n. found n r) count)
           ∙ e
-          ∙ ap (λ n. smallest n f) count
-          ∙ smallest-same (s .moving .count) f g (λ i h. same i (omega arith))
+          ∙ ap (λ n. cond at-once (some 0) (smallest n f)) count
+          ∙ ap (cond at-once (some 0)) (smallest-same (s .moving .count) f g (λ i h. same i (omega arith)))
 
       pub pair-disks : PairDisks (s .radices) (s .word) (eqb (s .moving .count) (s .n)) (take k (s .moving .digits))
       pair-disks =
@@ -127,7 +127,7 @@ module _ (s : Towers) (long : Arrays s) (ranged : inRange s ≡ true) where
                 let is = d .number in
                 let inside = d .within in
                 rw (number i (omega arith)) (omega arith);
-            positive = λ i h.
+            two = λ i h.
                 let d = digit-of s long fits i (omega arith) in
                 let is = d .number in
                 let index : digitOf s i - 1 ≡ d .index = omega arith in
@@ -145,7 +145,7 @@ module _ (s : Towers) (long : Arrays s) (ranged : inRange s ≡ true) where
           → found (s .moving .count) r ≡ chosen s
       chooses-on-pair r e f =
           let odd = leads .odd ∙ e in
-          found-among (s .moving .digits) r
+          found-among (s .moving .digits) r false
           (λ i. pairTest (getD (take k (s .moving .digits)) i 0) i)
           (λ i. onPair (s .turn) (pegOf s i))
           (long .moving)
@@ -157,22 +157,22 @@ module _ (s : Towers) (long : Arrays s) (ranged : inRange s ≡ true) where
 
       pub chooses-on-ring : (r : ℕ)
           → not (even m) ≡ false
-          → m - 1 ≤ s .turn
           → found (length (take k (s .pegs))) r
-          ≡ smallest (length (take k (s .pegs))) (λ i. not (eqb (getD (take k (s .pegs)) i 0) (getD (take k (s .pegs)) 0 0)))
+          ≡ cond (sweeping m (s .turn)) (some 0)
+          (smallest (length (take k (s .pegs))) (λ i. not (eqb (getD (take k (s .pegs)) i 0) (getD (take k (s .pegs)) 0 0))))
           → found (s .moving .count) r ≡ chosen s
-      chooses-on-ring r e h f =
+      chooses-on-ring r e f =
           let ring = leads .odd ∙ e in
-          let some = first-disk e in
+          let one = first-disk e in
           let first = getD-take k (s .pegs) 0 0 (omega arith) ∙ sym (peg-by false ring 0) in
-          found-among (s .pegs) r
+          found-among (s .pegs) r (sweeping m (s .turn))
           (λ i. not (eqb (getD (take k (s .pegs)) i 0) (getD (take k (s .pegs)) 0 0)))
           (λ i. elsewhere s i)
           (long .pegs)
           f
           (λ i below. ap not (ap₂ eqb (getD-take k (s .pegs) i 0 below ∙ sym (peg-by false ring i)) first))
-          ∙ sym (smallest-elsewhere-is-top (s .moving .count) (pegOf s) (pegOf s 0))
-          ∙ ring-by false ring (le-ltb (s .turn) (m - 1) h)
+          ∙ ap (cond (sweeping m (s .turn)) (some 0)) (sym (smallest-elsewhere-is-top (s .moving .count) (pegOf s) (pegOf s 0)))
+          ∙ ring-by ring
 
     -- ---- advance
     pub turn-below : s .turn < cond (not (even m)) 2 m
@@ -216,15 +216,17 @@ module _ (s : Towers) (long : Arrays s) (ranged : inRange s ≡ true) where
             (here .within) in
             rw at-index (ap₂ _&&_ (le-leb 2 (getD (s .radices) j 0) (here .two)) ranged-there)
 
-        -- the pegs as the code stores them: for odd counts each as it came
-        pegs-stored : (odd : Bool) (peg : ℕ)
-            → set (s .pegs) i (cond odd (getD (s .pegs) i 0) peg) ≡ cond odd (s .pegs) (set (s .pegs) i peg)
-        pegs-stored true peg = set-getD (s .pegs) i 0
-        pegs-stored false peg = refl
+        pub movable : Movable (s .radices) at (s .word) (s .downs)
+        movable =
+            let few = digit-fits in
+            let room = long .radices in
+            let word = long .word in
+            let downs = long .downs in
+            record { few = few; radix = omega arith; notch = omega arith; direction = omega arith; stands = digit-moves }
 
-        pub disk-moved : (to : Directed) (peg turn : ℕ)
+        pub disk-moved : (to : Directed) (newPegs : List ℕ) (turn : ℕ)
             → to ≡ advancedFrom (getD (s .radices) at 0) (getD (s .word) at 0) (getD (s .downs) at false)
-            → peg ≡ cond (not (even m)) (getD (s .pegs) i 0) (pegAfter m i (getD (s .pegs) i 0))
+            → newPegs ≡ cond (not (even m)) (s .pegs) (set (s .pegs) i (pegAfter m i (getD (s .pegs) i 0)))
             → turn ≡ turnBy (not (even m)) m (s .turn)
             → record {
               state =
@@ -235,13 +237,13 @@ module _ (s : Towers) (long : Arrays s) (ranged : inRange s ≡ true) where
                     word = set (s .word) at (to .digit);
                     turn = turn;
                     downs = set (s .downs) at (to .down);
-                    pegs = set (s .pegs) i peg;
+                    pegs = newPegs;
                   };
               answer = given (moved (record { digit = at + 1; down = getD (s .downs) at false }));
             }
             ≡ moveOf s i
         unfolding moveOf
-        disk-moved to peg turn e f g =
+        disk-moved to newPegs turn e f g =
             let gone =
             e
             ∙ digit-advanced (getD (s .radices) at 0) (getD (s .word) at 0) (getD (s .downs) at false)
@@ -250,9 +252,8 @@ module _ (s : Towers) (long : Arrays s) (ranged : inRange s ≡ true) where
             ap (λ t. set (s .word) at (t .digit)) gone in
             let downs : set (s .downs) at (to .down) ≡ downsMoved (s .radices) (s .word) (s .downs) at =
             ap (λ t. set (s .downs) at (t .down)) gone in
-            let pegs : set (s .pegs) i peg ≡ pegsAfter s i =
-            ap (set (s .pegs) i) f
-            ∙ pegs-stored (not (even m)) (pegAfter m i (getD (s .pegs) i 0))
+            let pegs : newPegs ≡ pegsAfter s i =
+            f
             ∙ ap (λ o. cond o (s .pegs) (set (s .pegs) i (pegAfter m i (getD (s .pegs) i 0)))) (sym (leads .odd))
             ∙ under-cond (allOdd (disks s)) (s .pegs) (set (s .pegs) i (pegAfter m i (getD (s .pegs) i 0)))
             (set (s .pegs) i (pegAfter (common (disks s)) i (getD (s .pegs) i 0)))

@@ -1,22 +1,27 @@
 // The disk engine: it walks the list of a mixed-radix Gray code by a game of disks on pegs, one disk for each digit that moves.
 // Arrays in its state have digit 1, the fastest, first. Disks are numbered among the digits that move, and disk 1 is the
 // smallest; disk i + 1 stands at index i.
+use digit::Directed;
 use digit::MovingDigits;
 use gray::Counted;
 use gray::Opening;
+use gray::Running;
 use gray::Stepping;
 ghost use mathlib.Core.Path.{_≡_};
-ghost use mathlib.Core.Bool.{true, cond, _||_, not};
+ghost use mathlib.Core.Bool.{true, cond, _&&_, _||_, not};
+ghost use mathlib.Core.Option.{some};
 ghost use Prim.Native.Nat.{_+_, _-_, _≤_, _<_};
 ghost use lib.Dec.{eqb, leb, ltb};
 ghost use lib.ListN.{length, take, getD};
-ghost use Rattle.gray_theory.specs.Directions.{allBelow};
+ghost use Rattle.gray_theory.specs.Directions.{allBelow, digitInRange};
+ghost use Rattle.digit.specs.Advances.{advancedFrom};
 ghost use Rattle.digit.specs.Moving.{movingAs};
 ghost use Rattle.towers_theory.specs.States.{disks, inRange};
-ghost use Rattle.towers_theory.specs.Choices.{sidePeg, onPair, smallest, chosen};
-ghost use Rattle.towers_theory.specs.Calls.{freshWith, closedTowers, openOf, turnBy, pegAfter, moveOf, stepOf};
-ghost use Rattle.towers.specs.Structs.{towersAs, openedAs, steppedAs};
+ghost use Rattle.towers_theory.specs.Choices.{sidePeg, onPair, sweeping, smallest, chosen};
+ghost use Rattle.towers_theory.specs.Calls.{freshWith, closedTowers, openOf, turnBy, pegAfter, moveOf, stepOf, runOf};
+ghost use Rattle.towers.specs.Structs.{towersAs, openedAs, steppedAs, ranAs};
 ghost use Rattle.towers.specs.Stages.{found, plays, lastRadix, DigitAt, PairDisks, surveyFits};
+ghost use Rattle.towers.specs.Stages.{stateOf, Movable, DigitMoved, Playing, Called};
 
 // The state: the survey (radices and their number n), the word (setting), the turn, the directions (down or not), the digits
 // that move, in rising order, and the pegs. For odd radices the turn says which pair of pegs is next, 0 for the left one; a
@@ -40,6 +45,17 @@ pub struct Opened {
 pub struct Stepped {
     pub towers: Towers,
     pub answer: Stepping,
+}
+
+pub struct Ran {
+    pub towers: Towers,
+    pub answer: Running,
+}
+
+// What a call of a run leaves besides its arrays: the byte of its move, 0 where it finds no disk, and the turn then.
+struct Played {
+    byte: u8,
+    turn: u8,
 }
 
 // The bound spares callers a fact about the byte that they read.
@@ -103,25 +119,12 @@ fn index_at(free: bool, digits: &[u8], i: usize) -> usize
     if free { i } else { wide(digits[i]) - 1 }
 }
 
-// Odd radices: left, middle and right are 0, 1 and 2.
-fn side_peg(m: u8, a: u8) -> u8
-    requires { ⌜ 0 < m ⌝ }
-    ensures { λ r. ⌜ r ≡ sidePeg m a ⌝ }
+// Odd radices: a disk is on the left two of the three pegs unless its digit is m - 1, and on the right two unless it is 0.
+fn on_pair(turn: u8, m: u8, a: u8) -> bool
+    requires { ⌜ 2 ≤ m ⌝ }
+    ensures { λ r. ⌜ r ≡ onPair turn (sidePeg m a) ⌝ }
 {
-    if a == 0 {
-        return 0;
-    }
-    if a == m - 1 { 2 } else { 1 }
-}
-
-fn on_pair(turn: u8, peg: u8) -> bool
-    ensures { λ r. ⌜ r ≡ onPair turn peg ⌝ }
-{
-    if turn == 0 {
-        (peg == 0) | (peg == 1)
-    } else {
-        (peg == 1) | (peg == 2)
-    }
+    if turn == 0 { a != m - 1 } else { a != 0 }
 }
 
 // The index of the smallest disk on the two pegs of the turn; where there is none, the number of disks. The disks' digits are
@@ -138,7 +141,7 @@ fn first_on_pair(radices: &[u8], word: &[u8], free: bool, digits: &[u8], turn: u
     let mut i = 0;
     while i < n {
         let at = index_at(free, digits, i);
-        if on_pair(turn, side_peg(radices[at], word[at])) {
+        if on_pair(turn, radices[at], word[at]) {
             return i;
         }
         i += 1;
@@ -165,6 +168,21 @@ fn first_elsewhere(pegs: &[u8]) -> usize
     n
 }
 
+// The index of the disk that moves on a ring: disk 1 in its sweep, whose moves the turn counts, and then the smallest one
+// elsewhere; where there is none, the number of disks.
+fn first_on_ring(m: u8, sweep: u8, pegs: &[u8]) -> usize
+    requires { ⌜ (0 < m) × (0 < length (now pegs)) ⌝ }
+    ensures { λ r. ⌜ found (length (now (pegs .entry))) r
+        ≡ cond (sweeping m sweep) (some 0)
+        (smallest (length (now (pegs .entry)))
+        (λ i. not (eqb (getD (now (pegs .entry)) i 0) (getD (now (pegs .entry)) 0 0)))) ⌝ }
+{
+    if sweep < m - 1 {
+        return 0;
+    }
+    first_elsewhere(pegs)
+}
+
 // The peg that disk i + 1 goes to on a ring of m + 1.
 fn next_peg(m: u8, i: usize, peg: u8) -> u8
     requires { ⌜ (i < 48) × (peg ≤ m) ⌝ }
@@ -185,6 +203,90 @@ fn next_turn(odd: bool, m: u8, turn: u8) -> u8
         return 1 - turn;
     }
     if turn < m - 1 { turn + 1 } else { 0 }
+}
+
+// A digit in range has a notch to move to. It turns at either end, so that on its way down it looks out for 0 alone, and on its
+// way up for m - 1.
+fn forward(m: u8, a: u8, down: bool) -> Directed
+    requires { ⌜ leb 2 m && digitInRange m a down ≡ true ⌝ }
+    ensures { λ r. ⌜ r ≡ advancedFrom m a down ⌝ }
+{
+    if down {
+        return Directed {
+            digit: a - 1,
+            down: a != 1,
+        };
+    }
+    Directed {
+        digit: a + 1,
+        down: a + 2 == m,
+    }
+}
+
+// The move of a digit in lent arrays, and its byte.
+fn move_digit(radices: &[u8], at: usize, word: &mut [u8], downs: &mut [bool]) -> u8
+    requires { ⌜ Movable (now radices) at (now word) (now downs) ⌝ }
+    ensures { λ r. ⌜ DigitMoved (now (radices .entry)) at (now (word .entry)) (now (downs .entry)) r (now (word .exit))
+        (now (downs .exit)) ⌝ }
+{
+    let a = word[at];
+    let down = downs[at];
+    let next = forward(radices[at], a, down);
+    word[at] = next.digit;
+    downs[at] = next.down;
+    digit::move_byte(at as u8 + 1, down)
+}
+
+// One call of a run, in lent arrays. (One search for both games, and one move, would take half as long again.)
+fn play(
+    m: u8,
+    radices: &[u8],
+    n: u8,
+    digits: &[u8],
+    count: u8,
+    word: &mut [u8],
+    turn: u8,
+    downs: &mut [bool],
+    pegs: &mut [u8],
+) -> Played
+    requires { ⌜ Playing m (stateOf (now radices) n (now digits) count (now word) turn (now downs) (now pegs)) ⌝ }
+    ensures { λ r. ⌜ Called
+        (stepOf
+        (stateOf (now (radices .entry)) n (now (digits .entry)) count (now (word .entry)) turn (now (downs .entry))
+        (now (pegs .entry))))
+        (r .byte)
+        (stateOf (now (radices .entry)) n (now (digits .entry)) count (now (word .exit)) (r .turn) (now (downs .exit))
+        (now (pegs .exit))) ⌝ }
+{
+    let free = count == n;
+    let most = wide(count);
+    if !(m % 2 == 0) {
+        let i = first_on_pair(radices, word, free, &digits[..most], turn);
+        if most <= i {
+            return Played {
+                byte: 0,
+                turn: turn,
+            };
+        }
+        let at = index_at(free, digits, i);
+        return Played {
+            byte: move_digit(radices, at, word, downs),
+            turn: 1 - turn,
+        };
+    }
+    let i = first_on_ring(m, turn, &pegs[..most]);
+    if most <= i {
+        return Played {
+            byte: 0,
+            turn: turn,
+        };
+    }
+    pegs[i] = next_peg(m, i, pegs[i]);
+    let at = index_at(free, digits, i);
+    Played {
+        byte: move_digit(radices, at, word, downs),
+        turn: next_turn(false, m, turn),
+    }
 }
 
 // The state that opening gives: the word all 0, the directions all up, the left pair's turn or a sweep's start, all disks on
@@ -313,11 +415,8 @@ impl Towers {
             let free = moving.count == self.n;
             return first_on_pair(&radices, &word, free, &digits[..count], self.turn);
         }
-        if self.turn < m - 1 {
-            return 0;
-        }
         let pegs = self.pegs;
-        first_elsewhere(&pegs[..count])
+        first_on_ring(m, self.turn, &pegs[..count])
     }
 
     // One call: a disk is chosen and moves, and its digit with it.
@@ -375,6 +474,87 @@ impl Towers {
         Stepped {
             towers: towers,
             answer: Stepping::Moved(k, down),
+        }
+    }
+
+    // At most t calls, up to the first that does not move: one byte a move in `out`, which has to hold t bytes.
+    pub fn run(self, t: u64, out: &mut [u8]) -> Ran
+        ensures { λ r. ⌜ ranAs r (now (out .exit)) ≡ runOf (towersAs self) t (now (out .entry)) ⌝ }
+    {
+        if !self.in_range() {
+            return Ran {
+                towers: self,
+                answer: Running::Refused(7),
+            };
+        }
+        if (out.len() as u64) < t {
+            return Ran {
+                towers: self,
+                answer: Running::Refused(9),
+            };
+        }
+        let m = self.last_radix();
+        self.calls(m, t as usize, out)
+    }
+
+    // The calls of a run: the range rule is kept by each, so that it is not tested again, and the arrays are local ones.
+    fn calls(self, m: u8, t: usize, out: &mut [u8]) -> Ran
+        requires { ⌜ Playing m (towersAs self) × (t ≤ length (now out)) ⌝ }
+        ensures { λ r. ⌜ ranAs r (now (out .exit)) ≡ runOf (towersAs self) t (now (out .entry)) ⌝ }
+    {
+        let radices = self.radices;
+        let moving = self.moving;
+        let digits = moving.digits;
+        let mut word = self.word;
+        let mut turn = self.turn;
+        let mut downs = self.downs;
+        let mut pegs = self.pegs;
+        let mut k = 0;
+        while k < t {
+            let made = play(
+                m,
+                &radices,
+                self.n,
+                &digits,
+                moving.count,
+                &mut word,
+                turn,
+                &mut downs,
+                &mut pegs,
+            );
+            turn = made.turn;
+            if made.byte == 0 {
+                let towers = self.settled(word, turn, downs, pegs);
+                return Ran {
+                    towers: towers,
+                    answer: Running::Ended(k as u64),
+                };
+            }
+            out[k] = made.byte;
+            k += 1;
+        }
+        let towers = self.settled(word, turn, downs, pegs);
+        Ran {
+            towers: towers,
+            answer: Running::Made(k as u64),
+        }
+    }
+
+    // The state after calls: the survey as it came, and what the calls have left of the rest.
+    fn settled(self, word: [u8; 48], turn: u8, downs: [bool; 48], pegs: [u8; 48]) -> Towers
+        ensures { λ r. ⌜ towersAs r
+            ≡ stateOf (self .radices) (self .n) (self .moving .digits) (self .moving .count) word turn downs pegs ⌝ }
+    {
+        let radices = self.radices;
+        let moving = self.moving;
+        Towers {
+            radices: radices,
+            n: self.n,
+            moving: moving,
+            word: word,
+            turn: turn,
+            downs: downs,
+            pegs: pegs,
         }
     }
 }

@@ -1,8 +1,21 @@
-//! The proved library against plain Rust (src/plain) for the same jobs, in one process: `bench [--quick]`. It prints Markdown,
-//! for docs/BENCHMARKS.md, which says how to read it.
+//! The proved library against plain Rust (src/plain) for the same jobs, in one process: `bench [--quick] [TABLE ..]`. It prints
+//! Markdown, for docs/BENCHMARKS.md, which says how to read it.
+//!
+//! Of the engines a run of moves is measured, from the start. The columns of their tables:
+//!
+//! - ours: the library's call, which tests what it is given, opens a walk, makes the run and lets the walk go.
+//! - Algorithm H: Knuth's loopless algorithm in C at -O3, step by step as he describes it (The Art of Computer Programming,
+//!   7.2.1.1), for runs of the buffered engine. It lists the same moves with no test and no buffer: less than ours does.
+//! - tuned Algorithm H: the same in C, but not as he describes it: changed for speed (src/plain/algorithm_h.c says how). For
+//!   long runs alone, since in short ones opening is most of the time.
+//! - plain Rust: does the same as ours, with the same tests and the same engine.
+//!
+//! Of each form of Algorithm H there are two programs, by cc and by clang, and in each row the better one counts.
 use outside::capi::{self, Answer};
 use outside::chance::Chance;
+use outside::plain::algorithm_h::{AlgorithmH, Form, LITERAL, TUNED};
 use outside::plain::{disks, list, log, walk, words};
+use outside::run::Run;
 use std::hint::black_box;
 use std::process::{Command, ExitCode};
 use std::time::Duration;
@@ -15,6 +28,10 @@ const WINDOW: usize = 1 << 20;
 const WINDOWS: usize = 16;
 /// Moves of a log: with their kinds, about 1 MiB.
 const LOGGED: u64 = 524_000;
+/// Moves of the short runs.
+const SHORT: [u64; 7] = [1, 2, 4, 16, 64, 256, 1024];
+/// Calls of a batch of short runs.
+const SHORT_CALLS: usize = 64;
 
 /// Twenty counts from 2 to 12, and twenty odd ones for the disk engine.
 const MIXED: [u8; 20] = [7, 2, 12, 5, 3, 9, 2, 10, 4, 6, 8, 3, 11, 5, 4, 7, 6, 10, 9, 8];
@@ -66,21 +83,41 @@ impl Survey {
     }
 }
 
-fn surveys(mixed: Survey) -> Vec<Survey> {
+/// Surveys of equal counts, and one of mixed ones.
+fn with_mixed(mixed: Survey) -> Vec<Survey> {
     let equal = [(6, 10), (6, 255), (20, 3), (20, 8), (39, 3), (48, 2)];
     let mut surveys: Vec<Survey> = equal.map(|(n, m)| Survey::equal(n, m)).into();
     surveys.insert(4, mixed);
     surveys
 }
 
-/// More of them for the engines, whose work locked sluices change: the same with and without these beside each other.
-fn more_surveys() -> [Survey; 4] {
-    [
+fn all_surveys() -> Vec<Survey> {
+    with_mixed(Survey::mixed("20 mixed, 2 to 12", &MIXED))
+}
+
+/// For the buffered engine, one of them with locked sluices.
+fn buffered_surveys() -> Vec<Survey> {
+    let equal = [(6, 10), (20, 3), (39, 3), (48, 2), (20, 8)];
+    let locked = Survey::locked(44, 2, 4);
+    equal.map(|(n, m)| Survey::equal(n, m)).into_iter().chain([locked]).collect()
+}
+
+/// For the disk engine, which plays with counts that are all odd, or all even and equal, but for locked sluices. These change
+/// its work: so the same with and without them beside each other.
+fn disk_surveys() -> Vec<Survey> {
+    let mut surveys = with_mixed(Survey::mixed("20 mixed, odd, 3 to 11", &MIXED_ODD));
+    surveys.extend([
         Survey::equal(10, 4),
         Survey::locked(20, 3, 10),
         Survey::equal(44, 2),
         Survey::locked(44, 2, 4),
-    ]
+    ]);
+    surveys
+}
+
+/// For short runs.
+fn two_surveys() -> Vec<Survey> {
+    vec![Survey::equal(6, 10), Survey::equal(48, 2)]
 }
 
 /// In what a job is counted, and how a time of so many ns for one is shown.
@@ -95,7 +132,7 @@ const NS_A_CALL: Unit = Unit {
 };
 const NS_A_MOVE: Unit = Unit {
     name: "ns a move",
-    show: |ns| format!("{ns:.1}"),
+    show: |ns| format!("{ns:.2}"),
 };
 const BYTES: Unit = Unit {
     name: "GB/s",
@@ -111,7 +148,7 @@ struct Bench {
     rounds: usize,
     /// Of each side in each round.
     least: Duration,
-    /// Moves of a walk by an engine; a survey may end before.
+    /// Moves of a run by an engine; a survey may end before.
     walked: usize,
 }
 
@@ -183,16 +220,30 @@ impl Bench {
         taken
     }
 
-    /// A row of a table: our side comes first. Of each side the best round, then our time over that of each other side.
+    /// A row of a table: our side comes first.
     fn row(&self, survey: &Survey, unit: &Unit, units: u64, sides: &mut [Work]) {
-        let taken = self.rounds(units, sides);
-        let best = taken
-            .iter()
-            .map(|ns| (unit.show)(ns.iter().copied().fold(f64::MAX, f64::min)));
-        let ratios = taken[1..].iter().map(|plain| ratio(&taken[0], plain));
-        let cells: Vec<String> = best.chain(ratios).collect();
-        println!("| {} | {} |", survey.name, cells.join(" | "));
+        print_row(&survey.name, unit, &self.rounds(units, sides));
     }
+}
+
+/// The best round.
+fn best(ns: &[f64]) -> f64 {
+    ns.iter().copied().fold(f64::MAX, f64::min)
+}
+
+/// Of each column the side with the best round.
+fn better(columns: &[Vec<Writer>], taken: Vec<Vec<f64>>) -> Vec<Vec<f64>> {
+    let mut taken = taken.into_iter();
+    let one = |sides: &Vec<Writer>| taken.by_ref().take(sides.len()).min_by(|a, b| best(a).total_cmp(&best(b)));
+    columns.iter().map(one).map(|side| side.expect("a side")).collect()
+}
+
+/// Of each side the best round, then the first one's time over that of each other side.
+fn print_row(name: &str, unit: &Unit, taken: &[Vec<f64>]) {
+    let times = taken.iter().map(|ns| (unit.show)(best(ns)));
+    let ratios = taken[1..].iter().map(|plain| ratio(&taken[0], plain));
+    let cells: Vec<String> = times.chain(ratios).collect();
+    println!("| {name} | {} |", cells.join(" | "));
 }
 
 /// The ratio of each round: the middle one, with the least and the greatest.
@@ -342,34 +393,95 @@ fn log_read_row(bench: &Bench, survey: &Survey) {
     bench.row(survey, &MOVES, moves, sides);
 }
 
-/// A row of an engine: ours, plain Rust call by call, and as one run.
-fn engine_row(bench: &Bench, survey: &Survey, sides: [Writer; 3]) {
-    let (_, moves) = alike(bench.walked, &sides);
-    let mut works = sides.map(|walk| {
-        let mut out = vec![0; bench.walked];
-        move || {
-            let _ = black_box(walk(black_box(&mut out)));
+/// The moves made by a run that is accepted.
+fn made(run: Run) -> Answer {
+    match run {
+        Run::Made(moves) | Run::Ended(moves) => Ok(moves),
+        Run::Stopped(_, number) | Run::Refused(number) => Err(number),
+    }
+}
+
+/// So many calls on memory of their own. What is lent is as long as the run.
+fn calls<'a>(times: usize, room: usize, write: Writer<'a>) -> impl FnMut() + 'a {
+    let mut out = vec![0; room];
+    move || {
+        for _ in 0..times {
+            let _ = black_box(write(black_box(&mut out)));
         }
-    });
-    let [ours, calls, run] = &mut works;
-    bench.row(survey, &NS_A_MOVE, moves, &mut [ours, calls, run]);
+    }
+}
+
+/// What a table of runs counts: how many calls a batch has, and how many units where each of them makes so many moves. Then
+/// what forms of Algorithm H it has.
+struct Counted {
+    unit: Unit,
+    calls: usize,
+    units: fn(u64) -> u64,
+    forms: &'static [Form],
+}
+
+const MOVES_OF_A_RUN: Counted = Counted {
+    unit: NS_A_MOVE,
+    calls: 1,
+    units: |moves| moves,
+    forms: &[LITERAL, TUNED],
+};
+const SHORT_RUNS: Counted = Counted {
+    unit: NS_A_CALL,
+    calls: SHORT_CALLS,
+    units: |_| SHORT_CALLS as u64,
+    forms: &[LITERAL],
+};
+
+/// A row of runs of t moves by the buffered engine: ours, the forms of Algorithm H and plain Rust.
+fn runs_row(bench: &Bench, survey: &Survey, t: u64, counted: &Counted, name: &str) {
+    let (radices, capacity, t) = (black_box(&survey.radices[..]), black_box(survey.capacity()), black_box(t));
+    let ours: Writer = &|out| made(capi::moves(radices, capacity, t, out));
+    let plain: Writer = &|out| made(walk::run(radices, capacity, t, out));
+    let listed = |h: &'static AlgorithmH| move |out: &mut [u8]| Ok(h.run(radices, t, out));
+    let forms: Vec<_> = counted.forms.iter().map(|form| form.each_ref().map(listed)).collect();
+
+    let mut columns = vec![vec![ours]];
+    columns.extend(forms.iter().map(|[by_cc, by_clang]| vec![by_cc as Writer, by_clang]));
+    columns.push(vec![plain]);
+    let sides = columns.concat();
+    let (_, moves) = alike(t as usize, &sides);
+    let mut batches: Vec<_> = sides.iter().map(|write| calls(counted.calls, t as usize, write)).collect();
+    let mut works: Vec<Work> = batches.iter_mut().map(|batch| batch as Work).collect();
+    let taken = bench.rounds((counted.units)(moves), &mut works);
+    print_row(name, &counted.unit, &better(&columns, taken));
 }
 
 fn walk_row(bench: &Bench, survey: &Survey) {
-    let (radices, capacity) = (black_box(&survey.radices[..]), black_box(survey.capacity()));
-    let calls: Writer = &|out| walk::moves(radices, capacity, out);
-    let run: Writer = &|out| walk::run(radices, capacity, out);
-    engine_row(bench, survey, [&|out| capi::moves(radices, capacity, out), calls, run]);
+    runs_row(bench, survey, bench.walked as u64, &MOVES_OF_A_RUN, &survey.name);
+}
+
+/// A row for each length: a call opens the walk too, and where few moves are made that is most of it.
+fn short_rows(bench: &Bench, survey: &Survey) {
+    for t in SHORT {
+        runs_row(bench, survey, t, &SHORT_RUNS, &format!("{}, t = {t}", survey.name));
+    }
 }
 
 fn disk_row(bench: &Bench, survey: &Survey) {
-    let radices = black_box(&survey.radices[..]);
-    let calls: Writer = &|out| disks::moves(radices, out);
-    let run: Writer = &|out| disks::run(radices, out);
-    engine_row(bench, survey, [&|out| capi::towers(radices, out), calls, run]);
+    let (radices, t) = (black_box(&survey.radices[..]), bench.walked);
+    let sides: [Writer; 2] = [&|out| made(capi::towers(radices, t as u64, out)), &|out| {
+        made(disks::run(radices, t as u64, out))
+    }];
+    let (_, moves) = alike(t, &sides);
+    let [mut ours, mut plain] = sides.map(|write| calls(1, t, write));
+    bench.row(survey, &NS_A_MOVE, moves, &mut [&mut ours, &mut plain]);
 }
 
-/// The processor, its cores and the compiler of the plain side.
+/// What a compiler says of itself first.
+fn version(compiler: &str) -> String {
+    let output = Command::new(compiler).arg("--version").output();
+    let said = output.map_or(String::new(), |output| String::from_utf8_lossy(&output.stdout).into_owned());
+    let first = said.lines().next().map(String::from);
+    first.unwrap_or(format!("no {compiler}"))
+}
+
+/// The processor, its cores and the compilers of the other sides.
 fn machine() {
     let info = std::fs::read_to_string("/proc/cpuinfo").unwrap_or_default();
     let model = info
@@ -377,93 +489,99 @@ fn machine() {
         .find_map(|line| line.strip_prefix("model name"))
         .map(|rest| rest.trim_start_matches([' ', '\t', ':']));
     let cores = std::thread::available_parallelism().map_or(0, |cores| cores.get());
-    let rustc = Command::new("rustc").arg("--version").output();
-    let rustc = rustc.map_or("rustc unknown".into(), |output| {
-        String::from_utf8_lossy(&output.stdout).trim().to_string()
-    });
-    println!("Machine: {}, {cores} cores; {rustc}.", model.unwrap_or("unknown processor"));
+    println!("Machine: {}, {cores} cores.", model.unwrap_or("unknown processor"));
+    println!("Plain Rust by {}.", version("rustc"));
+    println!(
+        "Algorithm H, as Knuth describes it and tuned, by {} and {}, in each row the better.",
+        version("cc"),
+        version("clang")
+    );
 }
 
-/// A table: what it is called, what its sides are counted in, what ours is held to, and its rows.
+/// A table: what it is called, what its sides are counted in, what ours is held to, and the rows of each of its surveys.
 struct Table {
     name: &'static str,
     unit: Unit,
     others: &'static [&'static str],
-    row: fn(&Bench, &Survey),
+    surveys: fn() -> Vec<Survey>,
+    rows: fn(&Bench, &Survey),
 }
 
 const PLAIN: &[&str] = &["plain Rust"];
-const ENGINES: &[&str] = &["plain Rust call by call", "plain Rust in one run"];
+/// Algorithm H as Knuth describes it, and for long runs the tuned form too.
+const RUNS: &[&str] = &["Algorithm H", "tuned Algorithm H", "plain Rust"];
+const SHORT_ONES: &[&str] = &["Algorithm H", "plain Rust"];
 
-const TABLES: [Table; 8] = [
+const TABLES: [Table; 9] = [
     Table {
         name: "size",
         unit: NS_A_CALL,
         others: PLAIN,
-        row: size_row,
+        surveys: all_surveys,
+        rows: size_row,
     },
     Table {
         name: "rank",
         unit: NS_A_CALL,
         others: PLAIN,
-        row: rank_row,
+        surveys: all_surveys,
+        rows: rank_row,
     },
     Table {
         name: "word",
         unit: NS_A_CALL,
         others: PLAIN,
-        row: word_row,
+        surveys: all_surveys,
+        rows: word_row,
     },
     Table {
         name: "list",
         unit: BYTES,
         others: PLAIN,
-        row: list_row,
+        surveys: all_surveys,
+        rows: list_row,
     },
     Table {
         name: "log_write",
         unit: MOVES,
         others: PLAIN,
-        row: log_write_row,
+        surveys: all_surveys,
+        rows: log_write_row,
     },
     Table {
         name: "log_read",
         unit: MOVES,
         others: PLAIN,
-        row: log_read_row,
+        surveys: all_surveys,
+        rows: log_read_row,
     },
     Table {
         name: "moves",
         unit: NS_A_MOVE,
-        others: ENGINES,
-        row: walk_row,
+        others: RUNS,
+        surveys: buffered_surveys,
+        rows: walk_row,
     },
     Table {
-        name: TOWERS,
+        name: "short",
+        unit: NS_A_CALL,
+        others: SHORT_ONES,
+        surveys: two_surveys,
+        rows: short_rows,
+    },
+    Table {
+        name: "towers",
         unit: NS_A_MOVE,
-        others: ENGINES,
-        row: disk_row,
+        others: PLAIN,
+        surveys: disk_surveys,
+        rows: disk_row,
     },
 ];
-const TOWERS: &str = "towers";
 
 impl Table {
-    /// The disk engine plays with counts that are all odd, or all even and equal, but for locked sluices.
-    fn surveys(&self) -> Vec<Survey> {
-        let mut surveys = surveys(if self.name == TOWERS {
-            Survey::mixed("20 mixed, odd, 3 to 11", &MIXED_ODD)
-        } else {
-            Survey::mixed("20 mixed, 2 to 12", &MIXED)
-        });
-        if self.others == ENGINES {
-            surveys.extend(more_surveys());
-        }
-        surveys
-    }
-
     fn print(&self, bench: &Bench) {
         head(self.name, &self.unit, self.others);
-        self.surveys().iter().for_each(|survey| (self.row)(bench, survey));
+        (self.surveys)().iter().for_each(|survey| (self.rows)(bench, survey));
     }
 }
 

@@ -4,17 +4,20 @@
 //! accepted output and each byte after a refusal as they came.
 use super::Group;
 use crate::capi::{self, Answer};
+use crate::run::Run;
+use crate::second::run::Ran;
 use crate::second::{buffered, disks, log, survey};
+use std::fmt::Debug;
 
 /// Bytes that a writer of ours hands back, or the refusal.
 type Bytes<'a> = Result<&'a [u8], u8>;
 
 /// The proved library's answer, for those who know it from another source too.
-pub struct Theirs(Answer);
+pub struct Theirs<A = Answer>(A);
 
-impl Theirs {
+impl<A: PartialEq + Debug> Theirs<A> {
     /// One comparison more, with an answer that is known.
-    pub fn is(self, g: &mut Group, inputs: impl FnOnce() -> String, expected: Answer) {
+    pub fn is(self, g: &mut Group, inputs: impl FnOnce() -> String, expected: A) {
         g.same(inputs, &expected, &self.0);
     }
 }
@@ -28,28 +31,42 @@ fn filling(length: usize, salt: u64) -> Vec<u8> {
         .collect()
 }
 
-/// A writer's call with `room` bytes lent to it.
-fn lend(
+/// A call with `room` bytes lent to it: its answer, and the bytes that it writes at the start of them.
+fn lend<A: PartialEq + Debug>(
+    g: &mut Group,
+    inputs: impl FnOnce() -> String,
+    room: usize,
+    ours: (A, &[u8]),
+    call: impl FnOnce(&mut [u8]) -> A,
+) -> Theirs<A> {
+    let (answer, bytes) = ours;
+    let mut expected = filling(room + 2 * GUARD, g.made);
+    let mut memory = expected.clone();
+    let theirs = call(&mut memory[GUARD..GUARD + room]);
+    expected[GUARD..GUARD + bytes.len()].copy_from_slice(bytes);
+    let wrong = (expected != memory).then(|| first_wrong(&expected, &memory));
+    let theirs = (theirs, wrong);
+    g.same(|| format!("{}, room {room}", inputs()), &(answer, None), &theirs);
+    Theirs(theirs.0)
+}
+
+/// The first byte that is not as it should be, counted from the start of what was lent.
+fn first_wrong(expected: &[u8], memory: &[u8]) -> String {
+    let mut pairs = expected.iter().zip(memory);
+    let x = pairs.position(|(wanted, found)| wanted != found).expect("they differ");
+    format!("byte {} is {}, not {}", x as isize - GUARD as isize, memory[x], expected[x])
+}
+
+/// A call of a writer, which answers how many bytes it has written.
+fn lend_writer(
     g: &mut Group,
     inputs: impl FnOnce() -> String,
     room: usize,
     ours: Bytes,
     call: impl FnOnce(&mut [u8]) -> Answer,
 ) -> Theirs {
-    let mut expected = filling(room + 2 * GUARD, g.made);
-    let mut memory = expected.clone();
-    let theirs = call(&mut memory[GUARD..GUARD + room]);
-    if let Ok(bytes) = ours {
-        expected[GUARD..GUARD + bytes.len()].copy_from_slice(bytes);
-    }
-    let wrong = expected.iter().zip(&memory).position(|(wanted, found)| wanted != found);
-    let wrong = wrong.map(|x| format!("byte {} is {}, not {}", x as isize - GUARD as isize, memory[x], expected[x]));
-    g.same(
-        || format!("{}, room {room}", inputs()),
-        &(ours.map(|bytes| bytes.len() as u64), None),
-        &(theirs, wrong),
-    );
-    Theirs(theirs)
+    let answer = ours.map(|bytes| bytes.len() as u64);
+    lend(g, inputs, room, (answer, ours.unwrap_or(&[])), call)
 }
 
 pub fn size(g: &mut Group, counts: &[u8]) -> Theirs {
@@ -71,7 +88,7 @@ pub fn rank(g: &mut Group, counts: &[u8], setting: &[u8]) -> Theirs {
 /// The setting of a rank held to bytes that are known.
 pub fn word_is(g: &mut Group, counts: &[u8], rank: u64, room: usize, ours: Bytes) -> Theirs {
     let inputs = || format!("setting of rank {rank} in {counts:?}");
-    lend(g, inputs, room, ours, |out| capi::word(counts, rank, out))
+    lend_writer(g, inputs, room, ours, |out| capi::word(counts, rank, out))
 }
 
 pub fn word(g: &mut Group, counts: &[u8], rank: u64, room: usize) -> Theirs {
@@ -82,7 +99,7 @@ pub fn word(g: &mut Group, counts: &[u8], rank: u64, room: usize) -> Theirs {
 /// A run of settings held to bytes that are known.
 pub fn list_is(g: &mut Group, counts: &[u8], from: u64, count: u64, room: usize, ours: Bytes) -> Theirs {
     let inputs = || format!("{count} settings from rank {from} in {counts:?}");
-    lend(g, inputs, room, ours, |out| capi::list(counts, from, count, out))
+    lend_writer(g, inputs, room, ours, |out| capi::list(counts, from, count, out))
 }
 
 pub fn list(g: &mut Group, counts: &[u8], from: u64, count: u64, room: usize) -> Theirs {
@@ -90,32 +107,45 @@ pub fn list(g: &mut Group, counts: &[u8], from: u64, count: u64, room: usize) ->
     list_is(g, counts, from, count, room, ours.as_deref().map_err(|&k| k))
 }
 
-/// Moves of the buffered engine held to bytes that are known.
-pub fn moves_are(g: &mut Group, counts: &[u8], capacity: usize, room: usize, ours: Bytes) -> Theirs {
-    let inputs = || format!("buffered moves of {counts:?}, capacity {capacity}");
-    lend(g, inputs, room, ours, |out| capi::moves(counts, capacity, out))
+/// The engine of a run, with its capacity where it has one.
+#[derive(Clone, Copy, Debug)]
+pub enum Engine {
+    Buffered(usize),
+    Disks,
 }
 
-pub fn moves(g: &mut Group, counts: &[u8], capacity: usize, room: usize) -> Theirs {
-    let ours = buffered::moves(counts, capacity, room);
-    moves_are(g, counts, capacity, room, ours.as_deref().map_err(|&k| k))
+impl Engine {
+    /// Our run of at most t moves from the start.
+    pub fn run(self, counts: &[u8], t: u64, room: usize) -> Ran {
+        match self {
+            Engine::Buffered(capacity) => buffered::moves(counts, capacity, t, room),
+            Engine::Disks => disks::moves(counts, t, room),
+        }
+    }
+
+    fn theirs(self, counts: &[u8], t: u64, out: &mut [u8]) -> Run {
+        match self {
+            Engine::Buffered(capacity) => capi::moves(counts, capacity, t, out),
+            Engine::Disks => capi::towers(counts, t, out),
+        }
+    }
 }
 
-/// Moves of the disk engine held to bytes that are known.
-pub fn towers_are(g: &mut Group, counts: &[u8], room: usize, ours: Bytes) -> Theirs {
-    let inputs = || format!("disk moves of {counts:?}");
-    lend(g, inputs, room, ours, |out| capi::towers(counts, out))
+/// A run held to one that is known: how it comes out, and the bytes of its moves.
+pub fn run_is(g: &mut Group, engine: Engine, counts: &[u8], t: u64, room: usize, ours: (Run, &[u8])) -> Theirs<Run> {
+    let inputs = || format!("run of {t} moves of {counts:?}, {engine:?}");
+    lend(g, inputs, room, ours, |out| engine.theirs(counts, t, out))
 }
 
-pub fn towers(g: &mut Group, counts: &[u8], room: usize) -> Theirs {
-    let ours = disks::moves(counts, room);
-    towers_are(g, counts, room, ours.as_deref().map_err(|&k| k))
+pub fn run(g: &mut Group, engine: Engine, counts: &[u8], t: u64, room: usize) -> Theirs<Run> {
+    let (outcome, bytes) = engine.run(counts, t, room);
+    run_is(g, engine, counts, t, room, (outcome, &bytes))
 }
 
 /// A log held to bytes that are known.
 pub fn log_is(g: &mut Group, counts: &[u8], capacity: usize, t: u64, room: usize, ours: Bytes) -> Theirs {
     let inputs = || format!("log of {t} moves of {counts:?}, capacity {capacity}");
-    lend(g, inputs, room, ours, |out| capi::log_write(counts, capacity, t, out))
+    lend_writer(g, inputs, room, ours, |out| capi::log_write(counts, capacity, t, out))
 }
 
 pub fn log_write(g: &mut Group, counts: &[u8], capacity: usize, t: u64, room: usize) -> Theirs {

@@ -1,9 +1,11 @@
 //! Every refusal that a call of the library can give, at its bound, beside the accepted neighbour. What is expected is written
-//! here as documents 01 and 02 have it, and both sides are held to it. (7 and 10 need an engine's state: see `cases`.)
+//! here as documents 01 and 02 have it, and both sides are held to it. (7 needs an engine's state: see `cases`.)
+use super::both::{self, Engine};
 use super::locked::{self, END_OF_NONE};
-use super::{both, surveys, Group};
+use super::{surveys, Group};
 use crate::capi::Answer;
 use crate::chance::Chance;
+use crate::run::Run;
 
 /// Two sluices: m2 = 2, m1 = 3, six settings.
 const TWO: [u8; 2] = [2, 3];
@@ -24,10 +26,22 @@ pub fn compare(g: &mut Group, _: &mut Chance) {
     disk_counts(g);
     wanted_too_much(g);
     rooms(g);
+    rooms_of_runs(g);
+    dry_runs(g);
     other_logs(g);
     combinations(g);
     combinations_in_logs(g);
     locked::compare(g);
+}
+
+/// How a run of t moves from the start comes out, where there is room for it and enough buffer. N is known, or what refuses the
+/// opening.
+fn run_of(t: u64, settings: Answer) -> Run {
+    match settings {
+        Ok(size) if t < size => Run::Made(t),
+        Ok(size) => Run::Ended(size - 1),
+        Err(number) => Run::Refused(number),
+    }
 }
 
 /// A log made of parts, read.
@@ -115,16 +129,13 @@ fn sluice_numbers(g: &mut Group) {
     ] {
         let counts = [vec![2; moving], vec![1; locked]].concat();
         both::size(g, &counts).is(g, || format!("{moving} moving, {locked} locked sluices"), expected);
-        both::moves(g, &counts, 32, 4).is(
-            g,
-            || format!("a walk on {moving} moving, {locked} locked sluices"),
-            expected.map(|size| (size - 1).min(4)),
-        );
-        both::towers(g, &counts, 4).is(
-            g,
-            || format!("disks on {moving} moving, {locked} locked sluices"),
-            expected.map(|size| (size - 1).min(4)),
-        );
+        for engine in [Engine::Buffered(32), Engine::Disks] {
+            both::run(g, engine, &counts, 4, 4).is(
+                g,
+                || format!("{engine:?} on {moving} moving, {locked} locked sluices"),
+                run_of(4, expected),
+            );
+        }
     }
 }
 
@@ -212,20 +223,17 @@ fn capacities(g: &mut Group) {
         (257, false),
         (usize::MAX, false),
     ] {
-        both::moves(g, &TWO, capacity, 9).is(
-            g,
-            || format!("a walk, capacity {capacity}"),
-            if fits { Ok(5) } else { Err(5) },
-        );
+        for (counts, size) in [(TWO, 6), ([1, 1], 1)] {
+            both::run(g, Engine::Buffered(capacity), &counts, 9, 9).is(
+                g,
+                || format!("a walk on {counts:?}, capacity {capacity}"),
+                run_of(9, if fits { Ok(size) } else { Err(5) }),
+            );
+        }
         both::log_write(g, &TWO, capacity, 4, 17).is(
             g,
             || format!("a log, capacity {capacity}"),
             if fits { Ok(17) } else { Err(5) },
-        );
-        both::moves(g, &[1, 1], capacity, 9).is(
-            g,
-            || format!("a walk with all locked, capacity {capacity}"),
-            if fits { Ok(0) } else { Err(5) },
         );
     }
     for (capacity, expected) in [(0, Err(5)), (1, Ok(0)), (32, Ok(0)), (33, Err(5)), (255, Err(5))] {
@@ -238,32 +246,32 @@ fn capacities(g: &mut Group) {
     }
 }
 
-/// Refusal 6.
+/// Refusal 6, beside N where the disk engine can be opened.
 fn disk_counts(g: &mut Group) {
     let cases: [(&[u8], Answer); 28] = [
-        (&[3, 5], Ok(14)),
-        (&[5, 3, 7], Ok(50)),
-        (&[3], Ok(2)),
-        (&[2], Ok(1)),
-        (&[4, 4], Ok(15)),
-        (&[254], Ok(50)),
-        (&[255, 253], Ok(50)),
+        (&[3, 5], Ok(15)),
+        (&[5, 3, 7], Ok(105)),
+        (&[3], Ok(3)),
+        (&[2], Ok(2)),
+        (&[4, 4], Ok(16)),
+        (&[254], Ok(254)),
+        (&[255, 253], Ok(64_515)),
         (&[2, 4], Err(6)),
         (&[4, 2], Err(6)),
         (&[2, 3], Err(6)),
         (&[3, 3, 2], Err(6)),
         (&[4, 4, 4, 6], Err(6)),
-        (&[1], Ok(0)),
-        (&[1, 1, 1], Ok(0)),
-        (&[1; 48], Ok(0)),
-        (&[1, 2], Ok(1)),
-        (&[2, 1], Ok(1)),
-        (&[1, 2, 2], Ok(3)),
-        (&[2, 1, 2], Ok(3)),
-        (&[2, 2, 1], Ok(3)),
-        (&[4, 1, 1, 4, 1], Ok(15)),
-        (&[3, 1, 5], Ok(14)),
-        (&[1, 255, 1], Ok(50)),
+        (&[1], Ok(1)),
+        (&[1, 1, 1], Ok(1)),
+        (&[1; 48], Ok(1)),
+        (&[1, 2], Ok(2)),
+        (&[2, 1], Ok(2)),
+        (&[1, 2, 2], Ok(4)),
+        (&[2, 1, 2], Ok(4)),
+        (&[2, 2, 1], Ok(4)),
+        (&[4, 1, 1, 4, 1], Ok(16)),
+        (&[3, 1, 5], Ok(15)),
+        (&[1, 255, 1], Ok(255)),
         (&[1, 2, 4], Err(6)),
         (&[4, 2, 1], Err(6)),
         (&[2, 1, 3], Err(6)),
@@ -271,7 +279,7 @@ fn disk_counts(g: &mut Group) {
         (&[1, 4, 4, 1, 6], Err(6)),
     ];
     for (counts, expected) in cases {
-        both::towers(g, counts, 50).is(g, || format!("disks on {counts:?}"), expected);
+        both::run(g, Engine::Disks, counts, 50, 50).is(g, || format!("disks on {counts:?}"), run_of(50, expected));
     }
 }
 
@@ -362,6 +370,46 @@ fn rooms(g: &mut Group) {
     both::log_write(g, &[4; 31], 1, SETTINGS_AT_LIMIT - 1, 100).is(g, || "a log of 2^62 - 1 moves in 100 bytes".into(), Err(9));
 }
 
+/// Refusal 9 of runs: t bytes are wanted, even where the walk ends sooner. Exactly the last move is no end yet.
+fn rooms_of_runs(g: &mut Group) {
+    let both_engines = [(Engine::Buffered(1), &TWO[..], 6), (Engine::Disks, &[1, 3, 3], 9)];
+    for (engine, counts, size) in both_engines {
+        for t in [0, 1, size - 2, size - 1, size, size + 1, 2 * size] {
+            for room in [t, t + 1, t + 9] {
+                let name = || format!("{engine:?}, {t} moves of {counts:?} in {room} bytes");
+                both::run(g, engine, counts, t, room as usize).is(g, name, run_of(t, Ok(size)));
+            }
+        }
+        for (t, room) in [(1, 0), (size - 1, size - 2), (size, size - 1), (2 * size, size), (size, 0)] {
+            let name = || format!("{engine:?}, {t} moves of {counts:?} in {room} bytes");
+            both::run(g, engine, counts, t, room as usize).is(g, name, Run::Refused(9));
+        }
+        for t in [255, 256, 1 << 16, 1 << 32, (1 << 32) + 3, 1 << 62, 1 << 63, u64::MAX] {
+            let name = || format!("{engine:?}, {t} moves of {counts:?} in 20 bytes");
+            both::run(g, engine, counts, t, 20).is(g, name, Run::Refused(9));
+        }
+    }
+}
+
+/// Refusal 10: the moves before it stand. Three two-notch sluices make seven with too small a buffer, and then run dry.
+fn dry_runs(g: &mut Group) {
+    for counts in [&[2, 2, 2][..], &[1, 2, 2, 1, 2], &[2, 1, 2, 2, 1, 1]] {
+        for (t, capacity, room, expected) in [
+            (6, 1, 6, Run::Made(6)),
+            (7, 1, 7, Run::Made(7)),
+            (8, 1, 8, Run::Stopped(7, 10)),
+            (9, 1, 20, Run::Stopped(7, 10)),
+            (8, 1, 7, Run::Refused(9)),
+            (8, 2, 8, Run::Ended(7)),
+            (8, 2, 7, Run::Refused(9)),
+            (7, 2, 7, Run::Made(7)),
+        ] {
+            let name = || format!("a walk on {counts:?}, capacity {capacity}, {t} moves in {room} bytes");
+            both::run(g, Engine::Buffered(capacity), counts, t, room).is(g, name, expected);
+        }
+    }
+}
+
 /// Refusal 11. The accepted neighbours are in `log_shapes`.
 fn other_logs(g: &mut Group) {
     let mut wrong_end = END;
@@ -408,7 +456,7 @@ fn other_logs(g: &mut Group) {
     );
 }
 
-/// Two or more apply: the lowest is given.
+/// Two or more apply: the lowest is given. Runs come with room for their moves and without, so that 9 applies besides.
 fn combinations(g: &mut Group) {
     let over = [4; 32];
     let over_with_zero = [&over[..], &[0]].concat();
@@ -427,8 +475,12 @@ fn combinations(g: &mut Group) {
         ("2 with 5 in a walk", &[][..], 0, 2),
         ("3 with 5 in a walk", &[2, 0], 33, 3),
         ("4 with 5 in a walk", &over, 0, 4),
+        ("5 with no room in a walk", &TWO, 0, 5),
+        ("5 with no room in a walk, capacity 33", &TWO, 33, 5),
     ] {
-        both::moves(g, counts, capacity, 4).is(g, || name.into(), Err(expected));
+        for room in [4, 3] {
+            both::run(g, Engine::Buffered(capacity), counts, 4, room).is(g, || name.into(), Run::Refused(expected));
+        }
     }
     for (name, counts, expected) in [
         ("2 with 6", &[[3; 40], [2; 40]].concat()[..], 2),
@@ -438,8 +490,11 @@ fn combinations(g: &mut Group) {
         ("3, where all others are locked", &[1, 0, 1], 3),
         ("4 with 6", &[[200; 10], [3; 10]].concat(), 4),
         ("4, where all are odd", &[201; 20], 4),
+        ("6 with no room", &TWO, 6),
     ] {
-        both::towers(g, counts, 4).is(g, || name.into(), Err(expected));
+        for room in [4, 3] {
+            both::run(g, Engine::Disks, counts, 4, room).is(g, || name.into(), Run::Refused(expected));
+        }
     }
     for (name, counts, setting, expected) in [
         ("2 with 8 in a rank", &[][..], &[1_u8][..], 2),

@@ -1,6 +1,7 @@
 //! States of both engines, fresh and made up, through the program `cases`: it keeps a state of each engine from line to line,
-//! changes it on demand and prints all of it after each step.
-use super::{faults, in_repository, process, ranges, script::Script, surveys, Group};
+//! changes it on demand and prints all of it after each step or run.
+use super::ranges::{self, Call};
+use super::{faults, in_repository, process, script::Script, surveys, Group};
 use crate::chance::Chance;
 use crate::second::buffered::{Walk, MOST_CAPACITY};
 use crate::second::disks::Disks;
@@ -13,9 +14,12 @@ const MOST_INPUT: usize = 32_768;
 const INPUT: usize = 20_000;
 
 /// Adds the lines of one case to a script.
-type Case = fn(&mut Script, &mut Chance);
+pub type Case = fn(&mut Script, &mut Chance);
 
 pub fn compare(g: &mut Group, chance: &mut Chance) {
+    let mut script = Script::new();
+    script.step_walk();
+    script.step_disks();
     let cases: [(usize, Case); 5] = [
         (300, fresh_walk),
         (2500, made_up_walk),
@@ -23,40 +27,30 @@ pub fn compare(g: &mut Group, chance: &mut Chance) {
         (2000, made_up_disks),
         (400, openings),
     ];
-    let mut script = Script::new();
-    script.step_walk();
-    script.step_disks();
-    for (times, case) in cases {
-        for _ in 0..times {
-            add(g, &mut script, |script| case(script, chance));
-        }
-    }
-    for sluices in ranges::small_settings() {
-        add(g, &mut script, |script| ranges::every_moving_field(script, &sluices));
-    }
-    for counts in ranges::small_surveys() {
-        for case in [
-            ranges::moving_of_walk,
-            ranges::fields_of_walk,
-            ranges::moving_of_disks,
-            ranges::fields_of_disks,
-        ] {
-            add(g, &mut script, |script| case(script, &counts));
-        }
-    }
+    add_all(g, &mut script, chance, &cases);
+    ranges::compare(g, &mut script, Call::Step);
     finish(g, script);
 }
 
+/// Each case so many times.
+pub fn add_all(g: &mut Group, script: &mut Script, chance: &mut Chance, cases: &[(usize, Case)]) {
+    for &(times, case) in cases {
+        for _ in 0..times {
+            add(g, script, |script| case(script, chance));
+        }
+    }
+}
+
 /// One case more, and a script that has become long enough is run.
-fn add(g: &mut Group, script: &mut Script, case: impl FnOnce(&mut Script)) {
+pub fn add(g: &mut Group, script: &mut Script, case: impl FnOnce(&mut Script)) {
     case(script);
     if script.input().len() > INPUT {
         finish(g, std::mem::take(script));
     }
 }
 
-/// Runs a script and compares what each of its steps printed.
-fn finish(g: &mut Group, script: Script) {
+/// Runs a script and compares what each of its lines printed.
+pub fn finish(g: &mut Group, script: Script) {
     assert!(script.input().len() <= MOST_INPUT, "a case is too long");
     let printed = match process::output(&in_repository("target/bin/cases"), script.input().as_bytes()) {
         Ok(bytes) => String::from_utf8_lossy(&bytes).into_owned(),
@@ -125,7 +119,7 @@ fn made_up_walk(script: &mut Script, chance: &mut Chance) {
     script.step_walk();
 }
 
-fn some_counts(chance: &mut Chance) -> Vec<u8> {
+pub fn some_counts(chance: &mut Chance) -> Vec<u8> {
     match chance.below(14) {
         0 => surveys::any(chance),
         1 => surveys::just_below(chance),
@@ -137,7 +131,7 @@ fn some_counts(chance: &mut Chance) -> Vec<u8> {
 }
 
 /// One of the ends, or something between.
-fn often_the_ends(chance: &mut Chance, low: u64, high: u64) -> u64 {
+pub fn often_the_ends(chance: &mut Chance, low: u64, high: u64) -> u64 {
     let between = low + chance.below(high - low + 1);
     chance.pick(&[low, high, between])
 }
@@ -172,7 +166,7 @@ fn litter_sluices(chance: &mut Chance, sluices: &mut Sluices) {
     }
 }
 
-fn walk_in_range(chance: &mut Chance, counts: &[u8]) -> Walk {
+pub fn walk_in_range(chance: &mut Chance, counts: &[u8]) -> Walk {
     let capacity = often_the_ends(chance, 1, highest_capacity(counts)) as usize;
     let mut walk = Walk::open(counts, capacity).expect("the survey and the capacity can be opened");
     let last_place = walk.last_place();
@@ -214,11 +208,7 @@ fn fresh_disks(script: &mut Script, chance: &mut Chance) {
 
 /// A state in range, moved; then the same with one change, mostly a fault.
 fn made_up_disks(script: &mut Script, chance: &mut Chance) {
-    let counts = match chance.below(8) {
-        0 => surveys::for_disks(chance, 48, 255),
-        1 => surveys::for_disks(chance, 48, 5),
-        _ => surveys::for_disks(chance, 6, 6),
-    };
+    let counts = some_disk_counts(chance);
     let disks = disks_in_range(chance, &counts);
     script.open_disks(&counts);
     script.make_disks(&disks);
@@ -233,8 +223,16 @@ fn made_up_disks(script: &mut Script, chance: &mut Chance) {
     script.step_disks();
 }
 
+pub fn some_disk_counts(chance: &mut Chance) -> Vec<u8> {
+    match chance.below(8) {
+        0 => surveys::for_disks(chance, 48, 255),
+        1 => surveys::for_disks(chance, 48, 5),
+        _ => surveys::for_disks(chance, 6, 6),
+    }
+}
+
 /// The first disks are often on one peg, so that a later one or none is chosen; pegs of odd counts may be anything.
-fn disks_in_range(chance: &mut Chance, counts: &[u8]) -> Disks {
+pub fn disks_in_range(chance: &mut Chance, counts: &[u8]) -> Disks {
     let mut disks = Disks::open(counts).expect("disks can be put on the survey");
     let moving = disks.sluices.moving;
     set_notches(chance, &mut disks.sluices);

@@ -1,5 +1,6 @@
 //! Bytes by chance as surveys, settings and logs; logs with a fault in them.
-use super::{both, surveys, Group};
+use super::both::{self, Engine};
+use super::{surveys, Group};
 use crate::chance::Chance;
 use crate::second::{log, survey};
 
@@ -59,9 +60,12 @@ fn every_call(g: &mut Group, chance: &mut Chance, counts: &[u8]) {
     let lent = room(chance, n * count.min(50) as usize);
     both::list(g, counts, rank, count, lent);
     let capacity = chance.between(0, 35);
-    let lent = chance.between(0, 60);
-    both::moves(g, counts, capacity, lent);
-    both::towers(g, counts, lent);
+    for engine in [Engine::Buffered(capacity), Engine::Disks] {
+        let (few, any) = (chance.below(60), near(chance, size));
+        let t = chance.pick(&[few, few, few, (size - 1).min(60), size.min(60), any]);
+        let lent = room(chance, t.min(60) as usize);
+        both::run(g, engine, counts, t, lent);
+    }
     let any = near(chance, size);
     let t = chance.pick(&[0, 1, size - 1, size, any]);
     let end = if t == size - 1 { 9 } else { 0 };

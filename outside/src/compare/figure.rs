@@ -2,8 +2,10 @@
 //!
 //! The figure prints each list in columns: the first column is read from top to bottom, then the second, and so on; the last
 //! columns are shorter. The rows below are the rows of the figure.
-use super::{both, Group};
+use super::both::{self, Engine};
+use super::Group;
 use crate::chance::Chance;
+use crate::run::Run;
 use crate::second::survey;
 
 /// (a) The binary Gray code for 6-tuples: 13 rows, 5 columns, the last of 12.
@@ -84,6 +86,10 @@ fn figure(g: &mut Group, counts: &[u8], capacity: usize, figure: &[Vec<u8>]) {
         both::word_is(g, counts, rank, setting.len(), Ok(setting));
     }
     let moves = survey::moves_along(figure);
-    both::moves_are(g, counts, capacity, moves.len() + 1, Ok(&moves));
-    both::towers_are(g, counts, moves.len() + 1, Ok(&moves));
+    let last = moves.len() as u64;
+    for engine in [Engine::Buffered(capacity), Engine::Disks] {
+        for (t, outcome) in [(last, Run::Made(last)), (size, Run::Ended(last))] {
+            both::run_is(g, engine, counts, t, figure.len(), (outcome, &moves));
+        }
+    }
 }

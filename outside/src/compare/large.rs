@@ -1,5 +1,6 @@
 //! Surveys by chance of up to 48 sluices, N up to 2^62 and over it.
-use super::{both, surveys, Group};
+use super::both::{self, Engine};
+use super::{surveys, Group};
 use crate::chance::Chance;
 use crate::second::{log, survey};
 
@@ -48,7 +49,8 @@ fn ranks(chance: &mut Chance, size: u64) -> Vec<u64> {
 /// A rank's setting, and the rank of that.
 fn both_ways(g: &mut Group, counts: &[u8], rank: u64) {
     both::word(g, counts, rank, counts.len());
-    both::rank(g, counts, &survey::setting(counts, rank)).is(g, || format!("rank {rank} there and back in {counts:?}"), Ok(rank));
+    let setting = survey::setting(counts, rank);
+    both::rank(g, counts, &setting).is(g, || format!("rank {rank} there and back in {counts:?}"), Ok(rank));
 }
 
 /// Settings from a rank on, or all that are left; the neighbours past the end are refused.
@@ -63,8 +65,9 @@ fn window(g: &mut Group, chance: &mut Chance, counts: &[u8], from: u64, size: u6
 
 fn first_moves(g: &mut Group, chance: &mut Chance, counts: &[u8], size: u64) {
     let capacity = chance.between(1, 32);
-    both::moves(g, counts, capacity, FIRST);
-    both::towers(g, counts, FIRST);
+    for engine in [Engine::Buffered(capacity), Engine::Disks] {
+        both::run(g, engine, counts, FIRST as u64, FIRST);
+    }
     let t = chance.below(FIRST as u64).min(size - 1);
     let room = 3 + 3 * counts.len() + 2 * t as usize + chance.between(0, 20);
     both::log_write(g, counts, capacity, t, room);
@@ -81,7 +84,9 @@ fn refused(g: &mut Group, chance: &mut Chance, counts: &[u8]) {
     both::rank(g, counts, &vec![0; counts.len()]);
     both::word(g, counts, number, counts.len());
     both::list(g, counts, number, 0, counts.len());
-    both::moves(g, counts, chance.between(0, 40), 10);
-    both::towers(g, counts, 10);
+    for engine in [Engine::Buffered(chance.between(0, 40)), Engine::Disks] {
+        both::run(g, engine, counts, number, 10);
+        both::run(g, engine, counts, 10, 10);
+    }
     both::log_write(g, counts, chance.between(0, 40), number, 1000);
 }

@@ -1,6 +1,8 @@
 //! Every call of the library on two kinds of surveys with locked sluices, at its bounds: some locked, and all.
+use super::both::{self, Engine};
 use super::bounds::{opening, read};
-use super::{both, Group};
+use super::Group;
+use crate::run::Run;
 
 /// Three sluices, of which the second moves alone: one change, sluice 2 up.
 const BETWEEN: [u8; 3] = [1, 2, 1];
@@ -52,12 +54,19 @@ fn moves(g: &mut Group) {
         (&[3, 1, 3, 1], &[2, 2, 4, 0x82, 0x82, 4, 2, 2]),
         (&[1, 4, 1], &[2, 2, 2]),
     ] {
-        both::moves_are(g, counts, 1, 9, Ok(moves));
-        both::towers_are(g, counts, 9, Ok(moves));
+        let last = moves.len() as u64;
+        for engine in [Engine::Buffered(1), Engine::Disks] {
+            both::run_is(g, engine, counts, 9, 9, (Run::Ended(last), moves));
+            both::run_is(g, engine, counts, last, 9, (Run::Made(last), moves));
+            both::run_is(g, engine, counts, 9, 8, (Run::Refused(9), &[]));
+        }
     }
     // Half of the moving sluices is enough, however many are locked.
     let twelve_of_48 = [[1, 2, 1, 1]; 12].concat();
-    both::moves(g, &twelve_of_48, 6, 5000).is(g, || "twelve moving of 48, capacity 6".into(), Ok(4095));
+    for (t, expected) in [(5000, Run::Ended(4095)), (4096, Run::Ended(4095)), (4095, Run::Made(4095))] {
+        let name = || format!("{t} moves, twelve moving of 48, capacity 6");
+        both::run(g, Engine::Buffered(6), &twelve_of_48, t, 5000).is(g, name, expected);
+    }
 }
 
 fn logs(g: &mut Group) {
@@ -101,10 +110,18 @@ fn settings_of_locked(g: &mut Group, n: usize) {
 
 /// No move; any capacity from 1 is enough.
 fn walks_of_locked(g: &mut Group, n: usize) {
-    for capacity in [1, 2, 24, 32] {
-        both::moves_are(g, &vec![1; n], capacity, 3, Ok(&[]));
+    for engine in [1, 2, 24, 32].map(Engine::Buffered).into_iter().chain([Engine::Disks]) {
+        for (t, room, expected) in [
+            (0, 0, Run::Made(0)),
+            (0, 3, Run::Made(0)),
+            (1, 1, Run::Ended(0)),
+            (3, 3, Run::Ended(0)),
+            (1, 0, Run::Refused(9)),
+            (3, 2, Run::Refused(9)),
+        ] {
+            both::run_is(g, engine, &vec![1; n], t, room, (expected, &[]));
+        }
     }
-    both::towers_are(g, &vec![1; n], 3, Ok(&[]));
 }
 
 /// t = 0 is N - 1, so the log of no moves has its end record.

@@ -13,6 +13,8 @@ mod locked;
 mod process;
 mod program;
 mod ranges;
+mod run_cases;
+mod runs;
 mod script;
 mod small;
 mod surveys;
@@ -47,13 +49,15 @@ impl Group {
 
 type Compare = fn(&mut Group, &mut Chance);
 
-const GROUPS: [(&str, Compare); 7] = [
+const GROUPS: [(&str, Compare); 9] = [
     ("lists of figure 1", figure::compare),
     ("small surveys", small::compare),
     ("large surveys", large::compare),
+    ("long runs", runs::compare),
     ("refusals at their bounds", bounds::compare),
     ("random and damaged bytes", damage::compare),
     ("states of both engines", cases::compare),
+    ("runs of both engines' states", run_cases::compare),
     ("the program walk", program::compare),
 ];
 

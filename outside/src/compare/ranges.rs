@@ -1,13 +1,33 @@
 //! The range rules of small states, on either side of each bound: every moving field beside every setting of one or two sluices
 //! and beside the fresh states of up to three, and every other field of these.
 use super::script::Script;
+use super::{cases, Group};
 use crate::second::buffered::Walk;
 use crate::second::disks::Disks;
 use crate::second::sluices::Sluices;
 use crate::second::survey;
 
+/// What is done with each state.
+#[derive(Clone, Copy)]
+pub enum Call {
+    Step,
+    /// Of one move, with room for it.
+    Run,
+}
+
+pub fn compare(g: &mut Group, script: &mut Script, call: Call) {
+    for sluices in small_settings() {
+        cases::add(g, script, |script| every_moving_field(script, call, &sluices));
+    }
+    for counts in small_surveys() {
+        for case in [moving_of_walk, fields_of_walk, moving_of_disks, fields_of_disks] {
+            cases::add(g, script, |script| case(script, call, &counts));
+        }
+    }
+}
+
 /// Counts, notches and directions of one or two sluices, in range or not: notches up to the count itself.
-pub fn small_settings() -> Vec<Sluices> {
+fn small_settings() -> Vec<Sluices> {
     let one: Vec<(u8, u8, bool)> = (0..=3)
         .flat_map(|m| (0..=m).flat_map(move |a| [(m, a, false), (m, a, true)]))
         .collect();
@@ -29,7 +49,7 @@ fn sluices(settings: &[(u8, u8, bool)]) -> Sluices {
 }
 
 /// Every survey of up to three sluices with counts up to 3.
-pub fn small_surveys() -> Vec<Vec<u8>> {
+fn small_surveys() -> Vec<Vec<u8>> {
     (1..=3).flat_map(|n| numbers(n, 1, 3)).collect()
 }
 
@@ -51,7 +71,7 @@ fn moving_fields(n: u8) -> Vec<Vec<u8>> {
 }
 
 /// Both engines on up to two sluices, all else as at the start.
-pub fn every_moving_field(script: &mut Script, sluices: &Sluices) {
+fn every_moving_field(script: &mut Script, call: Call, sluices: &Sluices) {
     script.open_walk(&[2], 1);
     script.open_disks(&[2]);
     let (mut walk, mut disks) = (Walk::closed(), Disks::closed());
@@ -59,36 +79,42 @@ pub fn every_moving_field(script: &mut Script, sluices: &Sluices) {
     for numbers in moving_fields(2) {
         walk.sluices.set_moving(&numbers);
         disks.sluices.set_moving(&numbers);
-        step_walk(script, &walk);
-        step_disks(script, &disks);
+        call_walk(script, call, &walk);
+        call_disks(script, call, &disks);
     }
 }
 
-fn step_walk(script: &mut Script, walk: &Walk) {
+fn call_walk(script: &mut Script, call: Call, walk: &Walk) {
     script.make_walk(walk);
-    script.step_walk();
+    match call {
+        Call::Step => script.step_walk(),
+        Call::Run => script.run_walk(1, 1),
+    }
 }
 
-fn step_disks(script: &mut Script, disks: &Disks) {
+fn call_disks(script: &mut Script, call: Call, disks: &Disks) {
     script.make_disks(disks);
-    script.step_disks();
+    match call {
+        Call::Step => script.step_disks(),
+        Call::Run => script.run_disks(1, 1),
+    }
 }
 
 /// Every moving field of a fresh walk on up to three sluices.
-pub fn moving_of_walk(script: &mut Script, counts: &[u8]) {
+fn moving_of_walk(script: &mut Script, call: Call, counts: &[u8]) {
     let mut walk = open_walk(script, counts);
     for numbers in moving_fields(3) {
         walk.sluices.set_moving(&numbers);
-        step_walk(script, &walk);
+        call_walk(script, call, &walk);
     }
 }
 
 /// The same of the disks, where they can be opened.
-pub fn moving_of_disks(script: &mut Script, counts: &[u8]) {
+fn moving_of_disks(script: &mut Script, call: Call, counts: &[u8]) {
     let Some(mut disks) = open_disks(script, counts) else { return };
     for numbers in moving_fields(3) {
         disks.sluices.set_moving(&numbers);
-        step_disks(script, &disks);
+        call_disks(script, call, &disks);
     }
 }
 
@@ -103,13 +129,13 @@ fn open_disks(script: &mut Script, counts: &[u8]) -> Option<Disks> {
 }
 
 /// Each field of the buffered engine's own, over all that it may be and beyond.
-pub fn fields_of_walk(script: &mut Script, counts: &[u8]) {
+fn fields_of_walk(script: &mut Script, call: Call, counts: &[u8]) {
     let fresh = open_walk(script, counts);
     let last = survey::size(counts).expect("the survey can be opened") - 1;
     let mut with = |change: &dyn Fn(&mut Walk)| {
         let mut walk = fresh.clone();
         change(&mut walk);
-        step_walk(script, &walk);
+        call_walk(script, call, &walk);
     };
     for value in 0..=5 {
         with(&|walk| walk.place = value.into());
@@ -127,16 +153,16 @@ pub fn fields_of_walk(script: &mut Script, counts: &[u8]) {
 }
 
 /// Each field of the disk engine's own.
-pub fn fields_of_disks(script: &mut Script, counts: &[u8]) {
+fn fields_of_disks(script: &mut Script, call: Call, counts: &[u8]) {
     let Some(fresh) = open_disks(script, counts) else { return };
     for value in 0..=5 {
         let mut disks = fresh.clone();
         disks.turn = value.into();
-        step_disks(script, &disks);
+        call_disks(script, call, &disks);
         for x in 0..4 {
             let mut disks = fresh.clone();
             disks.peg[x] = value;
-            step_disks(script, &disks);
+            call_disks(script, call, &disks);
         }
     }
 }

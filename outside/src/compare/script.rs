@@ -1,9 +1,15 @@
 //! Lines for the program `cases`, and what it must print for them by the second implementation.
+use crate::run::Run;
 use crate::second::buffered::{Walk, MOST_CAPACITY};
 use crate::second::disks::Disks;
+use crate::second::run::Ran;
 use crate::second::sluices::Sluices;
 use crate::second::survey::MOST_SLUICES;
 use crate::second::Answer;
+
+/// The most bytes that the program lends to a run, and what they hold at first.
+pub const MOST_LENT: usize = 256;
+const LENT: u8 = 9;
 
 /// Lines without an outcome and the one with an outcome that follows them.
 pub struct Record {
@@ -108,6 +114,19 @@ impl Script {
         self.answered("disks step", &format!("{answer}; {}", disks_text(&self.disks)));
     }
 
+    /// A run of at most t moves with so many bytes lent, 256 at the most.
+    pub fn run_walk(&mut self, t: u64, lent: usize) {
+        let ran = self.walk.run(t, lent);
+        let outcome = format!("{}; {}", run_text(&ran, lent), walk_text(&self.walk));
+        self.answered(&format!("walk run {t}, {lent}"), &outcome);
+    }
+
+    pub fn run_disks(&mut self, t: u64, lent: usize) {
+        let ran = self.disks.run(t, lent);
+        let outcome = format!("{}; {}", run_text(&ran, lent), disks_text(&self.disks));
+        self.answered(&format!("disks run {t}, {lent}"), &outcome);
+    }
+
     /// Lines that make the walk's state this one. Entries are always written: what lies past the end of a queue is nobody's.
     pub fn make_walk(&mut self, wanted: &Walk) {
         let now = std::mem::replace(&mut self.walk, wanted.clone());
@@ -180,6 +199,19 @@ fn answer_text(answer: Answer) -> String {
         Answer::End => "end".into(),
         Answer::Refused(number) => format!("refused {number}"),
     }
+}
+
+/// How a run came out, and all bytes that were lent to it: past its moves they are as they came.
+fn run_text((run, moves): &Ran, lent: usize) -> String {
+    let outcome = match run {
+        Run::Made(moves) => format!("made {moves};"),
+        Run::Ended(moves) => format!("ended {moves};"),
+        Run::Stopped(moves, number) => format!("stopped {moves} {number};"),
+        Run::Refused(number) => format!("refused {number};"),
+    };
+    let mut bytes = vec![LENT; lent];
+    bytes[..moves.len()].copy_from_slice(moves);
+    in_order(&outcome, &bytes)
 }
 
 /// A field's name and values, which stand sluice 1 first here and last there.

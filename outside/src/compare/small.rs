@@ -1,12 +1,17 @@
 //! Every survey of at most 5 sluices, counts 1 to 5 and at most 1,000 settings, held to the list as it is defined.
-use super::{both, Group};
+use super::both::{self, Engine};
+use super::runs::{enough, Longest};
+use super::Group;
 use crate::capi;
 use crate::chance::Chance;
-use crate::second::{buffered, disks, log, survey};
+use crate::run::Run;
+use crate::second::{log, survey};
 
 const MOST_SLUICES: usize = 5;
 const MOST_SETTINGS: u64 = 1000;
 const CAPACITIES: std::ops::RangeInclusive<usize> = 1..=32;
+/// Up to so many settings ours makes each run anew.
+const MOST_ANEW: u64 = 40;
 
 /// A survey with its list and the move bytes of all its changes.
 struct Known {
@@ -26,9 +31,9 @@ impl Known {
         self.list.len() as u64
     }
 
-    /// Room for a move too many, as a walk may be wrong by not ending.
-    fn one_more(&self) -> usize {
-        self.moves.len() + 1
+    /// More moves than there are, as a walk may be wrong by not ending.
+    fn past_end(&self) -> u64 {
+        self.size() + 2
     }
 
     fn log(&self, capacity: usize, t: u64) -> Vec<u8> {
@@ -42,8 +47,8 @@ pub fn compare(g: &mut Group, chance: &mut Chance) {
         both::size(g, &known.counts).is(g, || format!("size of {:?}", known.counts), Ok(known.size()));
         settings(g, chance, &known);
         ranks(g, &known);
-        buffered_moves(g, chance, &known);
-        disk_moves(g, chance, &known);
+        buffered_runs(g, chance, &known);
+        disk_runs(g, chance, &known);
         logs_of_all_lengths(g, chance, &known);
         logs_of_all_capacities(g, chance, &known);
     }
@@ -105,35 +110,57 @@ fn ranks(g: &mut Group, known: &Known) {
     both::word_is(g, &known.counts, known.size(), n, Err(8));
 }
 
-/// Lengths of output at which an engine may stop, or be stopped.
-fn rooms(chance: &mut Chance, known: &Known) -> [usize; 4] {
-    let last = known.moves.len();
-    [last, last + 4, chance.between(0, last), 0]
+/// Every capacity, and so walks that run dry: they make as many moves as ours does, all of them the list's. None runs dry if
+/// the capacity is half of the moving sluices or more. At the least such capacity and the one below it, runs have every length.
+fn buffered_runs(g: &mut Group, chance: &mut Chance, known: &Known) {
+    let counts = &known.counts;
+    let enough = enough(counts);
+    for capacity in CAPACITIES {
+        let longest = Longest::of(Engine::Buffered(capacity), counts, known.past_end());
+        let least = if capacity >= enough { known.moves.len() } else { 0 };
+        let name = || format!("our buffered moves of {counts:?}, capacity {capacity}");
+        let listed = longest.moves.len().clamp(least, known.moves.len());
+        g.same(name, &known.moves[..listed], &longest.moves[..]);
+        if capacity == enough || capacity + 1 == enough {
+            runs_of_all_lengths(g, chance, known, &longest);
+        } else {
+            runs_of_some_lengths(g, chance, known, &longest);
+        }
+    }
+    for capacity in [0, 33] {
+        let longest = Longest::of(Engine::Buffered(capacity), counts, known.past_end());
+        runs_of_some_lengths(g, chance, known, &longest);
+    }
 }
 
-/// Every capacity, and so walks that run dry: they write as many moves as ours makes, all of them the list's. None runs dry if
-/// the capacity is half of the moving sluices or more.
-fn buffered_moves(g: &mut Group, chance: &mut Chance, known: &Known) {
-    let counts = &known.counts;
-    let moving = counts.iter().filter(|&&m| m > 1).count();
-    for capacity in CAPACITIES {
-        let made = buffered::moves(counts, capacity, known.one_more()).expect("the survey can be opened");
-        let least = if 2 * capacity >= moving { known.moves.len() } else { 0 };
-        let name = || format!("our buffered moves of {counts:?}, capacity {capacity}");
-        g.same(name, &known.moves[..made.len().clamp(least, known.moves.len())], &made[..]);
-        for room in rooms(chance, known) {
-            both::moves_are(g, counts, capacity, room, Ok(&made[..room.min(made.len())]));
+/// The disk engine's moves are the list's; or its runs of all lengths get refusal 6.
+fn disk_runs(g: &mut Group, chance: &mut Chance, known: &Known) {
+    let longest = Longest::of(Engine::Disks, &known.counts, known.past_end());
+    if longest.outcome == Run::Refused(6) {
+        return runs_of_some_lengths(g, chance, known, &longest);
+    }
+    g.same(
+        || format!("our disk moves of {:?}", known.counts),
+        &known.moves,
+        &longest.moves,
+    );
+    runs_of_all_lengths(g, chance, known, &longest);
+}
+
+/// Every t from none to past the end.
+fn runs_of_all_lengths(g: &mut Group, chance: &mut Chance, known: &Known, longest: &Longest) {
+    for t in 0..=known.past_end() {
+        longest.theirs(g, chance, t);
+        if known.size() <= MOST_ANEW {
+            longest.ours(g, t);
         }
     }
 }
 
-/// The disk engine's moves, or refusal 6.
-fn disk_moves(g: &mut Group, chance: &mut Chance, known: &Known) {
-    if let Ok(made) = disks::moves(&known.counts, known.one_more()) {
-        g.same(|| format!("our disk moves of {:?}", known.counts), &known.moves, &made);
-    }
-    for room in rooms(chance, known) {
-        both::towers(g, &known.counts, room);
+fn runs_of_some_lengths(g: &mut Group, chance: &mut Chance, known: &Known, longest: &Longest) {
+    let last = known.moves.len() as u64;
+    for t in [0, chance.below(known.size()), last, last + 1] {
+        longest.theirs(g, chance, t);
     }
 }
 

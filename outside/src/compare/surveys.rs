@@ -1,6 +1,7 @@
 //! Surveys by chance, large and small, with locked sluices in about half of them. All can be opened but those of `over`.
 use crate::chance::Chance;
 use crate::second::survey::{self, MOST_SLUICES};
+use std::ops::RangeInclusive;
 
 /// The most settings.
 const LIMIT: u64 = 1 << 62;
@@ -32,6 +33,25 @@ pub fn small(chance: &mut Chance, most: usize, highest: u8) -> Vec<u8> {
     let moving = chance.between(1, most);
     let counts = chance.bytes(moving, 2, highest);
     mixed(chance, counts, most)
+}
+
+/// One locked sluice or more among these, which move.
+pub fn with_some_locked(chance: &mut Chance, counts: Vec<u8>) -> Vec<u8> {
+    let place = chance.between(0, counts.len());
+    let mut counts = with_locked(chance, counts, MOST_SLUICES - 1);
+    counts.insert(place, 1);
+    counts
+}
+
+/// N within these bounds.
+pub fn of_size(chance: &mut Chance, sizes: RangeInclusive<u64>) -> Vec<u8> {
+    loop {
+        let (small, few, equal) = (small(chance, 13, 9), few_moving(chance), for_disks(chance, 13, 9));
+        let counts = chance.pick(&[small, few, equal]);
+        if survey::size(&counts).is_ok_and(|size| sizes.contains(&size)) {
+            return counts;
+        }
+    }
 }
 
 /// Up to 5 sluices that move, and up to 48 in all.

@@ -1,7 +1,7 @@
-//! The disk engine on a state by reference: call by call, each with the range rule, and as one run that tests it once.
-use super::engine::{all, put_moves, Digits, Step, INDICES};
+//! The disk engine on a state by reference: runs of moves, each of which tests the range rule once.
+use super::engine::{all, put_moves, room_for, Digits, Step, INDICES};
 use super::words::MOST_DIGITS;
-use crate::capi::Answer;
+use crate::run::Run;
 
 /// The state. For odd radices the turn is the pair of pegs, and pegs follow from digits; for even ones it counts disk 1's
 /// sweep. The disks are the digits that move, and each has a peg.
@@ -44,8 +44,7 @@ impl Disks {
         })
     }
 
-    /// The range rule: the radix of disk 1 where all is in range. The word comes last: the call before has just stored in it,
-    /// and vectors of it have to wait for that.
+    /// The range rule: the radix of disk 1 where all is in range.
     #[inline]
     fn radix_in_range(&self) -> Option<u8> {
         self.digits.size_in_range()?;
@@ -119,38 +118,30 @@ impl Disks {
         (1..self.digits.moving.count).find(|&disk| self.pegs[disk] != self.pegs[0])
     }
 
-    /// One call.
-    #[inline(never)]
-    pub fn step(&mut self) -> Step {
-        match self.radix_in_range() {
-            Some(m) => self.call(m),
-            None => Step::Refused(7),
-        }
-    }
-
     /// For tests of the range rule.
     #[cfg(test)]
     pub fn digits(&mut self) -> &mut Digits {
         &mut self.digits
     }
 
-    /// As many calls as `out` has bytes, until one does not move; the range rule is tested before the first alone.
+    /// A run of at most t moves at the start of `out`: refusals 7 and 9.
     #[inline(never)]
-    pub fn run(&mut self, out: &mut [u8]) -> Answer {
-        let m = self.radix_in_range().ok_or(7)?;
-        Ok(put_moves(out, || self.call(m)))
+    pub fn run(&mut self, t: u64, out: &mut [u8]) -> Run {
+        let Some(m) = self.radix_in_range() else {
+            return Run::Refused(7);
+        };
+        match room_for(t, out) {
+            Some(out) => put_moves(out, || self.call(m)),
+            None => Run::Refused(9),
+        }
     }
 }
 
-/// The moves of a fresh game, call by call: refusals 2, 3, 4 and 6.
+/// A run from the start: refusals 2, 3, 4, 6 and 9.
 #[inline(never)]
-pub fn moves(radices: &[u8], out: &mut [u8]) -> Answer {
-    let mut disks = Disks::open(radices)?;
-    Ok(put_moves(out, || disks.step()))
-}
-
-/// The same as one run.
-#[inline(never)]
-pub fn run(radices: &[u8], out: &mut [u8]) -> Answer {
-    Disks::open(radices)?.run(out)
+pub fn run(radices: &[u8], t: u64, out: &mut [u8]) -> Run {
+    match Disks::open(radices) {
+        Ok(mut disks) => disks.run(t, out),
+        Err(number) => Run::Refused(number),
+    }
 }

@@ -1,5 +1,6 @@
 //! What both engines share.
 use super::words::{counted, MOST_DIGITS, MOST_WORDS};
+use crate::run::Run;
 
 /// What a call of an engine answers.
 pub enum Step {
@@ -114,8 +115,6 @@ impl Digits {
     }
 
     /// The range rule for the word and its directions, and that no radix is 0. A locked digit goes up, like any other at 0.
-    /// This test is best the last one: the call before has just stored in both arrays, and vectors of them have to wait for
-    /// that.
     #[inline]
     pub fn word_in_range(&self) -> bool {
         all(|i| {
@@ -152,14 +151,23 @@ pub fn reversed(radices: &[u8]) -> [u8; MOST_DIGITS] {
     array
 }
 
-/// Calls `step` until `out` is full or it does not move: one byte a move; the moves written.
+/// The part of lent memory for t moves, where there is so much of it.
 #[inline]
-pub fn put_moves(out: &mut [u8], mut step: impl FnMut() -> Step) -> u64 {
+pub fn room_for(t: u64, out: &mut [u8]) -> Option<&mut [u8]> {
+    out.get_mut(..usize::try_from(t).ok()?)
+}
+
+/// Calls `step` until `out` is full or it does not move: one byte a move.
+#[inline]
+pub fn put_moves(out: &mut [u8], mut step: impl FnMut() -> Step) -> Run {
     let mut moves = 0;
     for byte in out {
-        let Step::Moved(next) = step() else { break };
-        *byte = next;
+        match step() {
+            Step::Moved(next) => *byte = next,
+            Step::End => return Run::Ended(moves),
+            Step::Refused(number) => return Run::Stopped(moves, number),
+        }
         moves += 1;
     }
-    moves
+    Run::Made(moves)
 }

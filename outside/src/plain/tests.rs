@@ -1,8 +1,11 @@
-//! The plain calls answer what the library answers, refusals too.
-use super::engine::{Digits, Step};
-use super::{disks, list, log, walk, words};
+//! The plain calls answer what the library answers, refusals too; Algorithm H lists what the second program does.
+use super::engine::Digits;
+use super::{algorithm_h, disks, list, log, walk, words};
 use crate::capi::{self, Answer};
 use crate::chance::Chance;
+use crate::run::Run;
+use crate::second::survey;
+use std::fmt::Debug;
 
 /// Surveys short enough to be walked, some of them faulty, half of them with locked digits, some with no others.
 fn survey(chance: &mut Chance) -> Vec<u8> {
@@ -26,24 +29,20 @@ fn enough(radices: &[u8]) -> usize {
 }
 
 /// Both calls on memory that holds the same bytes: the same answers and bytes.
-fn alike(room: usize, ours: impl Fn(&mut [u8]) -> Answer, plain: impl Fn(&mut [u8]) -> Answer) -> Vec<u8> {
+fn alike<A: PartialEq + Debug>(room: usize, ours: impl Fn(&mut [u8]) -> A, plain: impl Fn(&mut [u8]) -> A) -> Vec<u8> {
     let (mut a, mut b) = (vec![0xaa; room], vec![0xaa; room]);
     assert_eq!((ours(&mut a), &a), (plain(&mut b), &b));
     a
 }
 
-/// Each of the two forms of either engine against the library's.
-fn engines_alike(radices: &[u8], capacity: usize, room: usize) {
-    for plain in [walk::moves, walk::run] {
-        alike(
-            room,
-            |out| capi::moves(radices, capacity, out),
-            |out| plain(radices, capacity, out),
-        );
-    }
-    for plain in [disks::moves, disks::run] {
-        alike(room, |out| capi::towers(radices, out), |out| plain(radices, out));
-    }
+/// A run of either engine from the start against the library's.
+fn engines_alike(radices: &[u8], capacity: usize, t: u64, room: usize) {
+    alike(
+        room,
+        |out| capi::moves(radices, capacity, t, out),
+        |out| walk::run(radices, capacity, t, out),
+    );
+    alike(room, |out| capi::towers(radices, t, out), |out| disks::run(radices, t, out));
 }
 
 #[test]
@@ -88,9 +87,76 @@ fn engines_are_alike() {
     let mut chance = Chance::new(3);
     for _ in 0..2_500 {
         let radices = survey(&mut chance);
-        let room = chance.between(0, 1_500);
+        let t = chance.between(0, 1_500);
+        let room = (t + chance.pick(&[0, 0, 1, 2, 9])).saturating_sub(chance.between(0, 1));
         let capacity = enough(&radices) + chance.between(0, 2) - 1 + 40 * usize::from(chance.once_in(20));
-        engines_alike(&radices, capacity, room);
+        engines_alike(&radices, capacity, t as u64, room);
+    }
+}
+
+/// A walk cut into runs makes the moves of one run, and comes out as that does.
+#[test]
+fn runs_go_on_where_the_last_one_stopped() {
+    let mut chance = Chance::new(7);
+    for _ in 0..1_000 {
+        let radices = survey(&mut chance);
+        let capacity = (enough(&radices) + chance.between(0, 1) - 1).clamp(1, 32);
+        let Ok(mut walk) = walk::Walk::open(&radices, capacity) else {
+            continue;
+        };
+        let (mut whole, mut cut) = ([0xaa; 900], [0xaa; 900]);
+        let outcome = walk::run(&radices, capacity, 900, &mut whole);
+        let mut made = 0;
+        let last = loop {
+            let t = chance.between(0, 300).min(900 - made);
+            let run = walk.run(t as u64, &mut cut[made..]);
+            made += run.moves() as usize;
+            if made == 900 || !matches!(run, Run::Made(_)) {
+                break run;
+            }
+        };
+        assert_eq!((made as u64, cut), (outcome.moves(), whole), "{radices:?}");
+        match (last, outcome) {
+            (Run::Made(_), Run::Made(_)) | (Run::Ended(_), Run::Ended(_)) => (),
+            (Run::Stopped(_, 10), Run::Stopped(_, 10)) => (),
+            other => panic!("{radices:?}: {other:?}"),
+        }
+    }
+}
+
+/// A state that comes to N moves, one more than the list has, makes no other.
+#[test]
+fn runs_stop_at_n_moves() {
+    let late = || {
+        let mut walk = walk::Walk::open(&[2, 3], 1).expect("a survey that is accepted");
+        walk.set_moves(4);
+        walk
+    };
+    assert_eq!(late().run(2, &mut [0; 2]), Run::Made(2));
+    let mut walk = late();
+    assert_eq!(walk.run(3, &mut [0; 3]), Run::Stopped(2, 7));
+    assert_eq!(walk.run(0, &mut []), Run::Refused(7));
+    walk.set_moves(6);
+    assert_eq!(walk.run(1, &mut []), Run::Refused(7));
+}
+
+/// Both forms by both compilers, at t on either side of the end.
+#[test]
+fn algorithm_h_lists_the_moves() {
+    let mut chance = Chance::new(8);
+    for _ in 0..1_000 {
+        let radices = survey(&mut chance);
+        let Ok(size) = survey::size(&radices) else { continue };
+        let moves = survey::move_bytes(&radices, (size - 1).min(300));
+        let last = moves.len() + if size <= 300 { 3 } else { 0 };
+        for t in [0, 1, 2, chance.between(0, last), last.saturating_sub(4), last].map(|t| t.min(last)) {
+            for h in [algorithm_h::LITERAL, algorithm_h::TUNED].iter().flatten() {
+                let mut out = [0xaa; 400];
+                let made = h.run(&radices, t as u64, &mut out) as usize;
+                assert_eq!((made, &out[..made]), (t.min(moves.len()), &moves[..made]), "{radices:?}");
+                assert!(out[made..].iter().all(|&byte| byte == 0xaa), "{radices:?}");
+            }
+        }
     }
 }
 
@@ -104,8 +170,8 @@ fn dry_walks_stay_dry() {
         let Ok(mut walk) = walk::Walk::open(&radices, 1) else {
             continue;
         };
-        if (0..1_000).any(|_| matches!(walk.step(), Step::Refused(_))) {
-            assert!((0..3).all(|_| matches!(walk.step(), Step::Refused(10))), "{radices:?}");
+        if matches!(walk.run(1_000, &mut [0; 1_000]), Run::Stopped(..)) {
+            assert!((0..3).all(|_| walk.run(2, &mut [0; 2]) == Run::Stopped(0, 10)), "{radices:?}");
             dry += 1;
         }
     }
@@ -146,8 +212,8 @@ fn all_locked() {
         );
         assert!(!refused(&radices, 2, |_| ()) && refused(&radices, 0, |digits| digits.n = 0));
         for capacity in [1, 2, 32] {
-            engines_alike(&radices, capacity, 3);
-            assert_eq!(walk::moves(&radices, capacity, &mut [0; 3]), Ok(0));
+            engines_alike(&radices, capacity, 3, 3);
+            assert_eq!(walk::run(&radices, capacity, 3, &mut [0; 3]), Run::Ended(0));
             let room = 3 + 3 * n + 9;
             let ours = |out: &mut [u8]| capi::log_write(&radices, capacity, 0, out);
             let log = alike(room, ours, |out| log::write(&radices, capacity, 0, out));
@@ -178,7 +244,7 @@ fn refused_at_the_bounds() {
     for (radices, size) in sizes {
         assert_eq!((capi::size(radices), words::size(radices)), (size, size), "{radices:?}");
         for capacity in [0, 1, 32, 33] {
-            engines_alike(radices, capacity, 100);
+            engines_alike(radices, capacity, 100, 100);
             let opened = if capacity % 33 == 0 { size.and(Err(5)) } else { size };
             assert_eq!(walk::Walk::open(radices, capacity).err(), opened.err(), "{radices:?}");
         }
@@ -193,7 +259,7 @@ fn refused_at_the_bounds() {
     ];
     for (radices, refusal) in games {
         assert_eq!(disks::Disks::open(radices).err(), refusal, "{radices:?}");
-        engines_alike(radices, 2, 100);
+        engines_alike(radices, 2, 100, 99);
     }
 }
 
@@ -235,12 +301,13 @@ const OF_LOCKED: [Spoiling; 5] = [
 fn refused(radices: &[u8], moves: usize, change: impl Fn(&mut Digits)) -> bool {
     let mut walk = walk::Walk::open(radices, enough(radices)).expect("a survey that is accepted");
     let mut disks = disks::Disks::open(radices).expect("a survey that is accepted");
-    for _ in 0..moves {
-        assert!(!matches!(walk.step(), Step::Refused(_)) && !matches!(disks.step(), Step::Refused(_)));
+    let mut out = vec![0; moves];
+    for run in [walk.run(moves as u64, &mut out), disks.run(moves as u64, &mut out)] {
+        assert!(matches!(run, Run::Made(_) | Run::Ended(_)));
     }
     change(walk.digits());
     change(disks.digits());
-    let refusals = [walk.step(), disks.step()].map(|step| matches!(step, Step::Refused(7)));
+    let refusals = [walk.run(0, &mut []), disks.run(0, &mut [])].map(|run| run == Run::Refused(7));
     assert!(refusals[0] == refusals[1], "{radices:?}");
     refusals[0]
 }

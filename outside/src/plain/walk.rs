@@ -1,46 +1,18 @@
-//! The buffered engine on a state by reference: call by call, each with the range rule, and as one run that tests it once.
-use super::engine::{all, put_moves, Digits, Step, INDICES};
+//! The buffered engine on a state by reference: runs of moves, each of which tests the range rule once.
+use super::engine::{all, put_moves, room_for, Digits, Step, INDICES};
 use super::words::MOST_DIGITS;
-use crate::capi::Answer;
+use crate::run::Run;
 
 const MOST_ENTRIES: usize = 32;
 
-/// A queue of entries, oldest first.
-trait Queue {
-    fn len(&self) -> usize;
-    fn push(&mut self, entry: u8);
-    fn pop(&mut self) -> u8;
-}
-
 /// The queue of a state: its oldest entry stands first, so that equal queues are equal bytes. (Its length is a byte because it
 /// is compared with those of `INDICES`.)
-struct Shifting {
+struct Queue {
     entries: [u8; MOST_ENTRIES],
     len: u8,
 }
 
-impl Queue for Shifting {
-    #[inline]
-    fn len(&self) -> usize {
-        self.len.into()
-    }
-
-    #[inline]
-    fn push(&mut self, entry: u8) {
-        self.entries[self.len()] = entry;
-        self.len += 1;
-    }
-
-    #[inline]
-    fn pop(&mut self) -> u8 {
-        let oldest = self.entries[0];
-        self.entries.copy_within(1.., 0);
-        self.len -= 1;
-        oldest
-    }
-}
-
-impl Shifting {
+impl Queue {
     /// Whether the entries lie in 1 to `most`.
     #[inline]
     fn in_range(&self, most: u8) -> bool {
@@ -56,7 +28,15 @@ struct Ring {
     end: usize,
 }
 
-impl Queue for Ring {
+impl Ring {
+    fn of(queue: &Queue) -> Ring {
+        Ring {
+            entries: queue.entries,
+            first: 0,
+            end: queue.len.into(),
+        }
+    }
+
     #[inline]
     fn len(&self) -> usize {
         self.end.wrapping_sub(self.first)
@@ -74,23 +54,13 @@ impl Queue for Ring {
         self.first = self.first.wrapping_add(1);
         oldest
     }
-}
 
-impl Ring {
-    fn of(queue: &Shifting) -> Ring {
-        Ring {
-            entries: queue.entries,
-            first: 0,
-            end: queue.len(),
-        }
-    }
-
-    fn shifted(mut self) -> Shifting {
-        let len = self.len();
+    fn shifted(mut self) -> Queue {
+        let len = self.len() as u8;
         self.entries.rotate_left(self.first % MOST_ENTRIES);
-        Shifting {
+        Queue {
             entries: self.entries,
-            len: len as u8,
+            len,
         }
     }
 }
@@ -110,13 +80,13 @@ struct Core {
 
 pub struct Walk {
     core: Core,
-    queue: Shifting,
+    queue: Queue,
 }
 
 impl Core {
     /// A work step. The place counts from 0 here; entries count from 1.
     #[inline]
-    fn work(&mut self, queue: &mut impl Queue) {
+    fn work(&mut self, queue: &mut Ring) {
         if self.place == self.digits.moving.count {
             return self.work_at_last(queue);
         }
@@ -135,7 +105,7 @@ impl Core {
     }
 
     /// A work step at the counter's last place, which counts to 1 and never carries.
-    fn work_at_last(&mut self, queue: &mut impl Queue) {
+    fn work_at_last(&mut self, queue: &mut Ring) {
         if !self.last && queue.len() < self.capacity {
             self.last = true;
             self.append(queue);
@@ -144,7 +114,7 @@ impl Core {
     }
 
     #[inline]
-    fn append(&mut self, queue: &mut impl Queue) {
+    fn append(&mut self, queue: &mut Ring) {
         queue.push(self.place as u8 + 1);
         self.place = 0;
     }
@@ -161,7 +131,7 @@ impl Core {
 
     /// What a call does with a state in range that has not ended.
     #[inline]
-    fn call(&mut self, queue: &mut impl Queue) -> Step {
+    fn call(&mut self, queue: &mut Ring) -> Step {
         let place = self.place;
         self.work(queue);
         self.work(queue);
@@ -205,37 +175,24 @@ impl Walk {
                 steps: 0,
                 ended: false,
             },
-            queue: Shifting {
+            queue: Queue {
                 entries: [0; MOST_ENTRIES],
                 len: 0,
             },
         })
     }
 
-    /// The range rule.
+    /// The range rule, and where it holds N.
     #[inline]
-    fn in_range(&self) -> bool {
+    fn size_in_range(&self) -> Option<u64> {
         let Walk { core, queue } = self;
-        if core.capacity == 0 || core.capacity > MOST_ENTRIES || queue.len() > core.capacity {
-            return false;
+        if core.capacity == 0 || core.capacity > MOST_ENTRIES || usize::from(queue.len) > core.capacity {
+            return None;
         }
-        let Some(total) = core.digits.size_in_range() else {
-            return false;
-        };
+        let total = core.digits.size_in_range()?;
         let most = core.digits.moving.count as u8 + 1;
-        queue.in_range(most) && core.counts_in_range(total) && core.digits.word_in_range()
-    }
-
-    /// One call.
-    #[inline(never)]
-    pub fn step(&mut self) -> Step {
-        if !self.in_range() {
-            return Step::Refused(7);
-        }
-        if self.core.ended {
-            return Step::End;
-        }
-        self.core.call(&mut self.queue)
+        let ok = queue.in_range(most) && core.counts_in_range(total) && core.digits.word_in_range();
+        ok.then_some(total)
     }
 
     /// For tests of the range rule.
@@ -244,31 +201,46 @@ impl Walk {
         &mut self.core.digits
     }
 
-    /// As many calls as `out` has bytes, until one does not move; the range rule is tested before the first alone.
+    /// For tests of made-up states.
+    #[cfg(test)]
+    pub fn set_moves(&mut self, moves: u64) {
+        self.core.moves = moves;
+    }
+
+    /// A run of at most t moves at the start of `out`: refusals 7 and 9, and 10 after the moves before a dry call.
     #[inline(never)]
-    pub fn run(&mut self, out: &mut [u8]) -> Answer {
-        if !self.in_range() {
-            return Err(7);
+    pub fn run(&mut self, t: u64, out: &mut [u8]) -> Run {
+        let Some(total) = self.size_in_range() else {
+            return Run::Refused(7);
+        };
+        match room_for(t, out) {
+            Some(out) if self.core.ended => put_moves(out, || Step::End),
+            Some(out) => self.make(out, total),
+            None => Run::Refused(9),
         }
-        if self.core.ended {
-            return Ok(0);
-        }
+    }
+
+    /// A run of a walk in range that has not ended; N is `total`. With move N a made-up state leaves its range, so that a call
+    /// after it is refused.
+    #[inline]
+    fn make(&mut self, out: &mut [u8], total: u64) -> Run {
+        let wanted = out.len() as u64;
+        let calls = wanted.min(total - self.core.moves);
         let mut ring = Ring::of(&self.queue);
-        let moves = put_moves(out, || self.core.call(&mut ring));
+        let run = put_moves(&mut out[..calls as usize], || self.core.call(&mut ring));
         self.queue = ring.shifted();
-        Ok(moves)
+        match run {
+            Run::Made(moves) if moves < wanted => Run::Stopped(moves, 7),
+            run => run,
+        }
     }
 }
 
-/// The moves of a fresh walk, call by call: refusals 2 to 5.
+/// A run from the start: refusals 2 to 5 and 9, and 10 as above.
 #[inline(never)]
-pub fn moves(radices: &[u8], capacity: usize, out: &mut [u8]) -> Answer {
-    let mut walk = Walk::open(radices, capacity)?;
-    Ok(put_moves(out, || walk.step()))
-}
-
-/// The same as one run.
-#[inline(never)]
-pub fn run(radices: &[u8], capacity: usize, out: &mut [u8]) -> Answer {
-    Walk::open(radices, capacity)?.run(out)
+pub fn run(radices: &[u8], capacity: usize, t: u64, out: &mut [u8]) -> Run {
+    match Walk::open(radices, capacity) {
+        Ok(mut walk) => walk.run(t, out),
+        Err(number) => Run::Refused(number),
+    }
 }

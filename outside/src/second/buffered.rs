@@ -1,7 +1,8 @@
-//! The buffered engine: document 01, "The buffered engine", document 02, request 4, and document 004, section 10.
+//! The buffered engine: document 01, "The buffered engine", document 02, requests 3 and 4, and document 004, section 10.
 //!
 //! Work steps, counter and queue run over the moving sluices alone: place i is the i-th of them, which is sluice i only if none
 //! before it is locked.
+use super::run::{self, Ran};
 use super::sluices::Sluices;
 use super::survey::{self, MOST_SLUICES};
 use super::{Answer, Refusal};
@@ -142,10 +143,14 @@ impl Walk {
         *self = next;
         answer
     }
+
+    /// A run of at most t moves, their bytes put into `room`.
+    pub fn run(&mut self, t: u64, room: usize) -> Ran {
+        run::single_calls(self.in_range(), || self.step(), t, room)
+    }
 }
 
-/// Move bytes of a fresh walk until `room` is full, the walk ends or a call is dry.
-pub fn moves(counts: &[u8], capacity: usize, room: usize) -> Result<Vec<u8>, Refusal> {
-    let mut walk = Walk::open(counts, capacity)?;
-    Ok(super::move_bytes_of(|| walk.step(), room))
+/// A run of a fresh walk.
+pub fn moves(counts: &[u8], capacity: usize, t: u64, room: usize) -> Ran {
+    run::from_start(Walk::open(counts, capacity), |walk| walk.run(t, room))
 }

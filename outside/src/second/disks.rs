@@ -1,6 +1,8 @@
-//! The disk engine: document 01, "The disk engine", document 02, request 4, and document 004, sections 7 and 8.
+//! The disk engine: document 01, "The disk engine", document 02, requests 3 and 4, and document 004, sections 7
+//! and 8.
 //!
 //! Disk i is the i-th of the moving sluices; a locked one is no disk.
+use super::run::{self, Ran};
 use super::sluices::Sluices;
 use super::survey::{self, MOST_SLUICES};
 use super::{Answer, Refusal};
@@ -116,10 +118,14 @@ impl Disks {
         let sluice = self.sluices.sluice(disk);
         Answer::Moved(self.sluices.move_sluice(sluice))
     }
+
+    /// A run of at most t moves, their bytes put into `room`.
+    pub fn run(&mut self, t: u64, room: usize) -> Ran {
+        run::single_calls(self.form_in_range().is_some(), || self.step(), t, room)
+    }
 }
 
-/// Move bytes of a fresh walk until `room` is full or the walk ends.
-pub fn moves(counts: &[u8], room: usize) -> Result<Vec<u8>, Refusal> {
-    let mut disks = Disks::open(counts)?;
-    Ok(super::move_bytes_of(|| disks.step(), room))
+/// A run of a fresh walk.
+pub fn moves(counts: &[u8], t: u64, room: usize) -> Ran {
+    run::from_start(Disks::open(counts), |disks| disks.run(t, room))
 }

@@ -5,6 +5,7 @@
 pub mod buffered;
 pub mod disks;
 pub mod log;
+pub mod run;
 pub mod sluices;
 pub mod survey;
 pub mod text;
@@ -29,14 +30,4 @@ fn check_room(bytes: u128, room: usize) -> Result<(), Refusal> {
         return Err(9);
     }
     Ok(())
-}
-
-/// Move bytes of an engine until it answers something else or `room` is full.
-fn move_bytes_of(mut step: impl FnMut() -> Answer, room: usize) -> Vec<u8> {
-    let mut bytes = vec![];
-    while bytes.len() < room {
-        let Answer::Moved(change) = step() else { break };
-        bytes.push(change.byte());
-    }
-    bytes
 }

@@ -1,9 +1,10 @@
-//! Document 01's cases, and those of document 02, request 4.
+//! Document 01's cases, and those of document 02, requests 3 and 4.
 use super::buffered::{self, Walk};
 use super::disks::Disks;
 use super::sluices::Sluices;
 use super::survey::{list, moving, rank, run, setting, size, Change};
 use super::{disks, log, text, Answer};
+use crate::run::Run;
 
 /// A setting or a survey of one-digit numbers.
 fn digits(text: &str) -> Vec<u8> {
@@ -190,9 +191,85 @@ fn disks_follow_the_list() {
     ];
     for counts in without_locked.iter().chain(&with_locked) {
         let size = size(counts).unwrap();
-        let moves = disks::moves(counts, size as usize).unwrap();
-        assert_eq!(moves, super::survey::move_bytes(counts, size - 1));
-        assert_eq!(moves, buffered::moves(counts, 32, size as usize).unwrap());
+        let whole = (Run::Ended(size - 1), super::survey::move_bytes(counts, size - 1));
+        assert_eq!(disks::moves(counts, size, size as usize), whole);
+        assert_eq!(buffered::moves(counts, 32, size, size as usize), whole);
+    }
+}
+
+/// The move bytes of the survey 2 3.
+const MOVES_OF_TWO: [u8; 5] = [1, 1, 2, 0x81, 0x81];
+
+/// Exactly the last move is no end yet; room for t bytes is wanted even past it.
+#[test]
+fn runs_from_the_start() {
+    for (t, room, outcome) in [
+        (0, 0, Run::Made(0)),
+        (3, 3, Run::Made(3)),
+        (5, 9, Run::Made(5)),
+        (6, 6, Run::Ended(5)),
+        (6, 5, Run::Refused(9)),
+        (1, 0, Run::Refused(9)),
+        (u64::MAX, 9, Run::Refused(9)),
+    ] {
+        let bytes = MOVES_OF_TWO[..outcome.moves() as usize].to_vec();
+        assert_eq!(buffered::moves(&[2, 3], 1, t, room), (outcome, bytes));
+    }
+    assert_eq!(disks::moves(&[1, 3], 3, 3), (Run::Ended(2), vec![1, 1]));
+    assert_eq!(disks::moves(&[1, 1], 0, 0), (Run::Made(0), vec![]));
+    assert_eq!(buffered::moves(&[1, 1], 1, 1, 1), (Run::Ended(0), vec![]));
+    assert_eq!(buffered::moves(&[2, 2, 2], 1, 9, 9).0, Run::Stopped(7, 10));
+}
+
+#[test]
+fn refused_runs_from_the_start() {
+    for (counts, capacity, number) in [
+        (&[][..], 0, 2),
+        (&[2, 0], 0, 3),
+        (&[255; 9], 0, 4),
+        (&[2], 0, 5),
+        (&[2], 1, 9),
+    ] {
+        assert_eq!(buffered::moves(counts, capacity, 1, 0), (Run::Refused(number), vec![]));
+    }
+    for (counts, number) in [(&[][..], 2), (&[2, 0], 3), (&[254; 9], 4), (&[2, 3], 6), (&[3], 9)] {
+        assert_eq!(disks::moves(counts, 1, 0), (Run::Refused(number), vec![]));
+    }
+}
+
+/// The state after a run, and how it came out, where it begins with this one.
+fn after_run(mut walk: Walk, t: u64, room: usize) -> (Run, Walk) {
+    (walk.run(t, room).0, walk)
+}
+
+/// A dry call and a state that comes to j = N stop a run after its moves; what is refused as a whole changes nothing.
+#[test]
+fn runs_that_stop() {
+    let mut dry = Walk::open(&[2, 2, 2], 1).unwrap();
+    (0..7).for_each(|_| _ = dry.step());
+    let fresh = Walk::open(&[2, 2, 2], 1).unwrap();
+    assert_eq!(after_run(fresh, 8, 8), (Run::Stopped(7, 10), dry.clone()));
+    assert_eq!(after_run(dry.clone(), 8, 8), (Run::Stopped(0, 10), dry.clone()));
+    assert_eq!(after_run(dry.clone(), 0, 0), (Run::Made(0), dry));
+    let mut late = Walk::open(&[2, 3], 1).unwrap();
+    late.moves = 4;
+    let (outcome, past) = after_run(late.clone(), 3, 3);
+    assert_eq!((outcome, past.moves, past.sluices.digit[0]), (Run::Stopped(2, 7), 6, 2));
+    assert_eq!(after_run(late, 2, 2), (Run::Made(2), past.clone()));
+    for (t, room) in [(0, 0), (1, 1), (1, 0)] {
+        assert_eq!(after_run(past.clone(), t, room), (Run::Refused(7), past.clone()));
+    }
+}
+
+/// The ending call's state is handed back; an ended walk makes no move, and none is what it may be asked for.
+#[test]
+fn runs_to_the_end() {
+    let mut ended = Walk::open(&[2, 3], 1).unwrap();
+    (0..6).for_each(|_| _ = ended.step());
+    let fresh = Walk::open(&[2, 3], 1).unwrap();
+    assert_eq!(after_run(fresh, 9, 9), (Run::Ended(5), ended.clone()));
+    for (t, room, outcome) in [(0, 0, Run::Made(0)), (4, 4, Run::Ended(0)), (4, 3, Run::Refused(9))] {
+        assert_eq!(after_run(ended.clone(), t, room), (outcome, ended.clone()));
     }
 }
 

@@ -1,23 +1,25 @@
--- `marathon::run` meets its contract: it ends, since each turn is one of `total` moves. Assumes nothing.
-use Prim.Native.Nat.{_≤_, _-_}
+-- `marathon::run` meets its contract: it ends, since each turn is one of the parts of `total` moves. Assumes nothing.
+use Prim.Native.Nat.{_+_, _-_, _/_}
+use mathlib.Core.Path.{_≡_}
+use lib.ListN.{length}
 use borrow.Author.Needs.{needs}
 use Rattle.marathon.proofs.run.Statement.{statement}
 use Rattle.marathon.proofs.run.Tie as tie
 
 abbrev Inv-loop : tie.InvT-loop
-Inv-loop disks total ahead₀ pegs₀ moves₀ ahead pegs moves = moves ≤ total
+Inv-loop disks total bytes₀ ahead₀ pegs₀ parts₀ bytes ahead pegs parts = length bytes ≡ 4096
 
 abbrev μ-loop : tie.MeasureT-loop
-μ-loop disks total ahead₀ pegs₀ moves₀ ahead pegs moves = total - moves
+μ-loop disks total bytes₀ ahead₀ pegs₀ parts₀ bytes ahead pegs parts = total / 4096 + 1 - parts
 
 loop-holds : tie.Need-loop-holds Inv-loop μ-loop
 loop-holds c = search needs
 
-step-requires : tie.Need-step-requires Inv-loop μ-loop
-step-requires c κs = search needs
+slice-aggregate-run-part : tie.Need-slice-aggregate-run-part Inv-loop μ-loop
+slice-aggregate-run-part c = search needs
 
-step-requires-2 : tie.Need-step-requires-2 Inv-loop μ-loop
-step-requires-2 c κs = search needs
+run-part-requires : tie.Need-run-part-requires Inv-loop μ-loop
+run-part-requires c κs = search needs
 
 enum-told : tie.Need-enum-told Inv-loop μ-loop
 enum-told c = search needs
@@ -28,8 +30,8 @@ returns c = search needs
 returns-2 : tie.Need-returns-2 Inv-loop μ-loop
 returns-2 c = search needs
 
-add-moves : tie.Need-add-moves Inv-loop μ-loop
-add-moves c = search needs
+add-parts : tie.Need-add-parts Inv-loop μ-loop
+add-parts c = search needs
 
 loop-less : tie.Need-loop-less Inv-loop μ-loop
 loop-less c = search needs
@@ -47,12 +49,12 @@ run-spec =
     Inv-loop
     μ-loop
     loop-holds
-    step-requires
-    step-requires-2
+    slice-aggregate-run-part
+    run-part-requires
     enum-told
     returns
     returns-2
-    add-moves
+    add-parts
     loop-less
     loop-again
     returns-3)

@@ -1,14 +1,13 @@
--- `runs::disk_moves` meets its contract: an opening that is refused passes its number on, and one that is accepted is stepped. Assumes
--- nothing.
+-- `runs::disk_moves` meets its contract: an opening that is refused passes its number on, and one that is accepted is run. Assumes nothing.
 use mathlib.Core.Path.{_≡_, sym, ap, _∙_}
-use Rattle.gray_theory.specs.Answers.{refused, numberOf}
+use Rattle.gray_theory.specs.Answers.{numberOf}
 use Rattle.gray_theory.specs.Engines.{Handed}
 use Rattle.gray.specs.Enums.{openingAs}
 use Rattle.towers_theory.specs.States.{Towers}
-use Rattle.towers_theory.specs.Calls.{closedTowers, openOf, stepOf}
+use Rattle.towers_theory.specs.Calls.{closedTowers, openOf, runOf}
 use Rattle.towers.specs.Structs.{openedAs}
 use Rattle.runs_theory.specs.Runs.{diskMovesCall}
-use Rattle.runs.proofs.Outputs.{run-refused, run-stepped}
+use Rattle.runs.proofs.Openings.{opening-refused, opening-runs}
 use borrow.Author.Needs.{needs}
 use Rattle.runs.proofs.disk_moves.Statement.{statement}
 use Rattle.runs.proofs.disk_moves.Tie as tie
@@ -42,12 +41,12 @@ returns c =
     let told = c .before in
     let began = told .before .before in
     let a = began .before .before .before .before .args in
-    run-refused stepOf (openOf closedTowers (a .radices .now)) _ _ _
+    opening-refused (openOf closedTowers (a .radices .now)) (λ s. runOf s (a .t) (a .out .now)) _ _ _
     (ap (λ (h : Handed Towers Unit). h .answer) (sym (opening began)) ∙ ap openingAs (told .enum-told2 .given .1))
-    (ap (λ k. refused k) (c .number .ensures ∙ ap (λ o. numberOf (openingAs o)) (told .enum-told2 .given .1)))
+    (c .number .ensures ∙ ap (λ o. numberOf (openingAs o)) (told .enum-told2 .given .1))
 
-put-disks-requires : tie.Need-put-disks-requires
-put-disks-requires c κs = search needs
+run-requires : tie.Need-run-requires
+run-requires c κs = search needs
 
 same-length : tie.Need-same-length
 same-length c = search needs
@@ -55,14 +54,14 @@ same-length c = search needs
 returns-2 : tie.Need-returns-2
 unfolding diskMovesCall
 returns-2 c =
-    let put = c .before .before in
-    let told = put .before .before .before in
+    let ran = c .before .before in
+    let told = ran .before .before .before in
     let began = told .before .before in
     let a = began .before .before .before .before .args in
-    run-stepped stepOf (openOf closedTowers (a .radices .now)) _ _ _ _
+    opening-runs (openOf closedTowers (a .radices .now)) (λ s. runOf s (a .t) (a .out .now)) _ _ _ _ _
     (ap (λ (h : Handed Towers Unit). h .answer) (sym (opening began)) ∙ ap openingAs (told .enum-told .given .1))
-    (ap (λ (h : Handed Towers Unit). h .state) (sym (opening began)))
-    (put .put-disks .ensures)
+    (ap (λ (h : Handed Towers Unit). h .state) (opening began))
+    (ran .run .ensures)
 
 pub disk-moves-spec : {M : Type 1} → statement M
 disk-moves-spec =
@@ -74,6 +73,6 @@ disk-moves-spec =
     enum-told-2
     number-requires
     returns
-    put-disks-requires
+    run-requires
     same-length
     returns-2)

@@ -1,14 +1,13 @@
--- `runs::walk_moves` meets its contract: an opening that is refused passes its number on, and one that is accepted is stepped. Assumes
--- nothing.
+-- `runs::walk_moves` meets its contract: an opening that is refused passes its number on, and one that is accepted is run. Assumes nothing.
 use mathlib.Core.Path.{_≡_, sym, ap, _∙_}
-use Rattle.gray_theory.specs.Answers.{refused, numberOf}
+use Rattle.gray_theory.specs.Answers.{numberOf}
 use Rattle.gray_theory.specs.Engines.{Handed}
 use Rattle.gray.specs.Enums.{openingAs}
 use Rattle.ahead_theory.specs.States.{Walk}
-use Rattle.ahead_theory.specs.Calls.{closedWalk, openOf, stepOf}
+use Rattle.ahead_theory.specs.Calls.{closedWalk, openOf, runOf}
 use Rattle.ahead.specs.Structs.{openedAs}
 use Rattle.runs_theory.specs.Runs.{walkMovesCall}
-use Rattle.runs.proofs.Outputs.{run-refused, run-stepped}
+use Rattle.runs.proofs.Openings.{opening-refused, opening-runs}
 use borrow.Author.Needs.{needs}
 use Rattle.runs.proofs.walk_moves.Statement.{statement}
 use Rattle.runs.proofs.walk_moves.Tie as tie
@@ -42,12 +41,12 @@ returns c =
     let told = c .before in
     let began = told .before .before in
     let a = began .before .before .before .before .args in
-    run-refused stepOf (openOf closedWalk (a .radices .now) (a .capacity)) _ _ _
+    opening-refused (openOf closedWalk (a .radices .now) (a .capacity)) (λ s. runOf s (a .t) (a .out .now)) _ _ _
     (ap (λ (h : Handed Walk Unit). h .answer) (sym (opening began)) ∙ ap openingAs (told .enum-told2 .given .1))
-    (ap (λ k. refused k) (c .number .ensures ∙ ap (λ o. numberOf (openingAs o)) (told .enum-told2 .given .1)))
+    (c .number .ensures ∙ ap (λ o. numberOf (openingAs o)) (told .enum-told2 .given .1))
 
-put-walk-requires : tie.Need-put-walk-requires
-put-walk-requires c κs = search needs
+run-requires : tie.Need-run-requires
+run-requires c κs = search needs
 
 same-length : tie.Need-same-length
 same-length c = search needs
@@ -55,14 +54,14 @@ same-length c = search needs
 returns-2 : tie.Need-returns-2
 unfolding walkMovesCall
 returns-2 c =
-    let put = c .before .before in
-    let told = put .before .before .before in
+    let ran = c .before .before in
+    let told = ran .before .before .before in
     let began = told .before .before in
     let a = began .before .before .before .before .args in
-    run-stepped stepOf (openOf closedWalk (a .radices .now) (a .capacity)) _ _ _ _
+    opening-runs (openOf closedWalk (a .radices .now) (a .capacity)) (λ s. runOf s (a .t) (a .out .now)) _ _ _ _ _
     (ap (λ (h : Handed Walk Unit). h .answer) (sym (opening began)) ∙ ap openingAs (told .enum-told .given .1))
-    (ap (λ (h : Handed Walk Unit). h .state) (sym (opening began)))
-    (put .put-walk .ensures)
+    (ap (λ (h : Handed Walk Unit). h .state) (opening began))
+    (ran .run .ensures)
 
 pub walk-moves-spec : {M : Type 1} → statement M
 walk-moves-spec =
@@ -74,6 +73,6 @@ walk-moves-spec =
     enum-told-2
     number-requires
     returns
-    put-walk-requires
+    run-requires
     same-length
     returns-2)

@@ -35,29 +35,26 @@ index-is : (c : tie.After-index-at Inv-loop μ-loop)
     → c .index-at .result ≡ getD (start (at c) .args .digits .now) (at c .loop .i) 0 - 1
 index-is c = let named = c .index-at .ensures in omega arith
 
-shared-slice-read-side-peg : tie.Need-shared-slice-read-side-peg Inv-loop μ-loop
-shared-slice-read-side-peg c =
+shared-slice-read-on-pair : tie.Need-shared-slice-read-on-pair Inv-loop μ-loop
+shared-slice-read-on-pair c =
     let found = c .before in
     let high = start (at found) .pre .last (at found .loop .i) (found .before .loop-test .taken) in
     let named = found .index-at .ensures in
     omega arith
 
-shared-slice-read-side-peg-2 : tie.Need-shared-slice-read-side-peg-2 Inv-loop μ-loop
-shared-slice-read-side-peg-2 c =
+shared-slice-read-on-pair-2 : tie.Need-shared-slice-read-on-pair-2 Inv-loop μ-loop
+shared-slice-read-on-pair-2 c =
     let found = c .before .before in
     let high = start (at found) .pre .last (at found .loop .i) (found .before .loop-test .taken) in
     let long = start (at found) .pre .long in
     let named = found .index-at .ensures in
     omega arith
 
-side-peg-requires : tie.Need-side-peg-requires Inv-loop μ-loop
-side-peg-requires c κs =
-    let found = c .before .before in
-    let some = start (at found) .pre .positive (at found .loop .i) (found .before .loop-test .taken) in
-    rw (index-is found) some
-
 on-pair-requires : tie.Need-on-pair-requires Inv-loop μ-loop
-on-pair-requires c κs = tt
+on-pair-requires c κs =
+    let found = c .before .before in
+    let two = start (at found) .pre .two (at found .loop .i) (found .before .loop-test .taken) in
+    rw (index-is found) two
 
 -- what the test of a disk has found
 abbrev onThePair : tie.At-loop Inv-loop μ-loop → ℕ → Bool
@@ -67,13 +64,12 @@ onThePair c k =
     (sidePeg (getD (a .radices .now) (getD (a .digits .now) k 0 - 1) 0) (getD (a .word .now) (getD (a .digits .now) k 0 - 1) 0))
 
 abbrev read : tie.After-on-pair Inv-loop μ-loop → tie.After-index-at Inv-loop μ-loop
-read c = c .before .before .before .before
+read c = c .before .before .before
 
 tested : (c : tie.After-on-pair Inv-loop μ-loop) → c .on-pair .result ≡ onThePair (at (read c)) (at (read c) .loop .i)
 tested c =
     let a = start (at (read c)) .args in
     c .on-pair .ensures
-    ∙ ap (onPair (a .turn)) (c .before .side-peg .ensures)
     ∙ ap (λ k. onPair (a .turn) (sidePeg (getD (a .radices .now) k 0) (getD (a .word .now) k 0))) (index-is (read c))
 
 returns : tie.Need-returns Inv-loop μ-loop
@@ -104,9 +100,8 @@ first-on-pair-spec =
     μ-loop
     loop-holds
     index-at-requires
-    shared-slice-read-side-peg
-    shared-slice-read-side-peg-2
-    side-peg-requires
+    shared-slice-read-on-pair
+    shared-slice-read-on-pair-2
     on-pair-requires
     returns
     add-i

@@ -5,14 +5,14 @@ use mathlib.Core.Logic.{⊎-elim}
 use mathlib.Core.Bool.{cond, not}
 use native.Mathlib.Omega.{arith}
 use borrow.Author.Needs.{needs}
-use lib.ListN.{getD}
+use lib.ListN.{getD, set}
 use Rattle.gray_theory.specs.Words.{even}
 use Rattle.towers_theory.specs.States.{Towers}
 use Rattle.towers_theory.specs.Calls.{pegAfter}
 use Rattle.towers_theory.specs.InRange.{Arrays}
 use Rattle.towers.specs.Structs.{towersAs}
 use Rattle.towers.proofs.Steps.{survey-right, count-fits, number-held, radix-positive, turn-below, peg-within}
-use Rattle.towers.proofs.Steps.{digit-fits, disk-moved}
+use Rattle.towers.proofs.Steps.{digit-fits, pegs-stored, disk-moved}
 use Rattle.towers.proofs.Towers.advance.Statement.{statement}
 use Rattle.towers.proofs.Towers.advance.Tie as tie
 
@@ -126,7 +126,7 @@ returns c =
     _
     _
     (joined .before .advanced .ensures)
-    stored
+    (ap (set (s .pegs) i) stored ∙ pegs-stored (s .pegs) i (not (even m)) (pegAfter m i peg))
     (c .next-turn .ensures)
 
 pub advance-spec : {M : Type 1} → statement M

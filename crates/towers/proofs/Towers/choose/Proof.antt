@@ -8,7 +8,7 @@ use Rattle.towers_theory.specs.States.{Towers}
 use Rattle.towers_theory.specs.InRange.{Arrays}
 use Rattle.towers.specs.Structs.{towersAs}
 use Rattle.towers.proofs.Steps.{survey-right, count-fits, radix-positive, first-disk, pair-disks}
-use Rattle.towers.proofs.Steps.{chooses-on-pair, chooses-in-sweep, chooses-on-ring}
+use Rattle.towers.proofs.Steps.{chooses-on-pair, chooses-on-ring}
 use Rattle.towers.proofs.Towers.choose.Statement.{statement}
 use Rattle.towers.proofs.Towers.choose.Tie as tie
 
@@ -71,52 +71,36 @@ returns c =
     (lent .before .before .before .before .before .before .before .if1 .taken)
     (c .first-on-pair .ensures)
 
-sub-if2 : tie.Need-sub-if2
-sub-if2 c =
-    let told = c .before in
-    let begun = start (told .before) in
-    let positive = radix-positive (state begun) (lengths begun) (begun .pre) _ (told .last-radix .ensures) in
-    omega arith
-
-returns-2 : tie.Need-returns-2
-returns-2 c =
-    let ring = c .before .before in
-    let told = ring .before in
-    let begun = start (told .before) in
-    chooses-in-sweep (state begun) (lengths begun) (begun .pre) _ (told .last-radix .ensures) (ring .if1 .left) (c .if2 .taken)
-
 array-share-prefix-pegs : tie.Need-array-share-prefix-pegs
 array-share-prefix-pegs c =
-    let counted = c .before .before .before .before .before in
+    let counted = c .before .before .before in
     let long = lengths (start counted) .pegs in
     let most = fits counted in
     omega arith
 
-slice-aggregate-first-elsewhere : tie.Need-slice-aggregate-first-elsewhere
-slice-aggregate-first-elsewhere c = sym (length-take-le _ _ (array-share-prefix-pegs (c .before)))
+slice-aggregate-first-on-ring : tie.Need-slice-aggregate-first-on-ring
+slice-aggregate-first-on-ring c = sym (length-take-le _ _ (array-share-prefix-pegs (c .before)))
 
-first-elsewhere-requires : tie.Need-first-elsewhere-requires
-first-elsewhere-requires c κs =
-    let ring = c .before .before .before .before in
+first-on-ring-requires : tie.Need-first-on-ring-requires
+first-on-ring-requires c κs =
+    let ring = c .before .before in
     let told = ring .before in
     let begun = start (told .before) in
-    let same = slice-aggregate-first-elsewhere c in
+    let same = slice-aggregate-first-on-ring c in
     let some = first-disk (state begun) (lengths begun) (begun .pre) _ (told .last-radix .ensures) (ring .if1 .left) in
     let n = told .before .wide .ensures .0 in
-    omega arith
+    (radix-positive (state begun) (lengths begun) (begun .pre) _ (told .last-radix .ensures), omega arith)
 
-returns-3 : tie.Need-returns-3
-returns-3 c =
-    let over = c .before .before .before in
-    let ring = over .before .before in
+returns-2 : tie.Need-returns-2
+returns-2 c =
+    let ring = c .before .before .before in
     let told = ring .before in
     let begun = start (told .before) in
     chooses-on-ring (state begun) (lengths begun) (begun .pre) _ (told .last-radix .ensures) _
     (told .before .wide .ensures .0)
     _
     (ring .if1 .left)
-    (omega arith)
-    (c .first-elsewhere .ensures)
+    (c .first-on-ring .ensures)
 
 pub choose-spec : {M : Type 1} → statement M
 choose-spec =
@@ -130,9 +114,7 @@ choose-spec =
     slice-aggregate-first-on-pair-3
     first-on-pair-requires
     returns
-    sub-if2
-    returns-2
     array-share-prefix-pegs
-    slice-aggregate-first-elsewhere
-    first-elsewhere-requires
-    returns-3)
+    slice-aggregate-first-on-ring
+    first-on-ring-requires
+    returns-2)

@@ -1,0 +1,2 @@
+-- What a stretch does, in the theory's terms.
+pub mod Stages
