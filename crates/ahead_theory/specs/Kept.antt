@@ -5,14 +5,17 @@ use native.Mathlib.Decide.{ℕ-discrete}
 use native.Mathlib.Omega.{arith}
 use mathlib.Core.Path.{_≡_, refl, sym, ap, subst, _∙_}
 use mathlib.Core.Bool.{Bool, true, false, cond}
+use mathlib.Core.Logic.{_⊎_, inl, inr}
 use lib.Dec.{eqb}
 use borrow.Author.Tests.{eq-eqb, ne-eqb}
 use lib.ListN.{length, getD, length-set}
 use lib.Seq.{getD-take}
-use Rattle.gray_theory.specs.Answers.{given}
+use Rattle.gray_theory.specs.Answers.{Answer, given, refused}
 use Rattle.gray_theory.specs.Bools.{impossible}
 use Rattle.gray_theory.specs.Changes.{Change}
-use Rattle.gray_theory.specs.Engines.{moved, refusedWith}
+use Rattle.gray_theory.specs.Engines.{Event, moved, after, refusedWith}
+use Rattle.gray_theory.specs.RunCalls.{refusal, runFrom}
+use Rattle.gray_theory.specs.SingleCalls.{stopped-run-leaves-its-moves}
 use Rattle.gray_theory.specs.Radices.{size}
 use Rattle.gray_theory.specs.DigitRanges.{digits-move-in-range}
 use Rattle.gray_theory.specs.Sizes.{radix-two}
@@ -237,6 +240,41 @@ last-move-then-7 w c last e =
     let now = more ∙ last in
     let most : size (survey (stepOf w .state)) ≤ stepOf w .state .moves = rw (same, now) (omega arith) in
     (now, past-the-end (stepOf w .state) most)
+
+-- ---- runs of moves
+-- a call that is refused is so by 7 or 10, and hands the state back as it came
+refused-call : (w : Walk) (y : ℕ) → stepOf w .answer ≡ refused y → (stepOf w .state ≡ w) × ((y ≡ 7) ⊎ (y ≡ 10))
+unfolding stepOf endOf moveOf
+refused-call w y = by (course w)
+  where
+    number : Answer Event → ℕ
+    number (given e) = 0
+    number (refused k) = k
+
+    by : (o : Course) → stepBy w o .answer ≡ refused y → (stepBy w o .state ≡ w) × ((y ≡ 7) ⊎ (y ≡ 10))
+    by faulty e = (refl, inl (sym (ap number e)))
+    by over e = impossible (cc)
+    by dry e = (refl, inr (sym (ap number e)))
+    by removing e = removed (eqb (getD (twice w .queue) 0 0) (w .moving .count + 1)) e
+      where
+        k : ℕ
+        k = getD (w .moving .digits) (getD (twice w .queue) 0 0 - 1) 0
+
+        p : Producer
+        p = dequeued (twice w)
+
+        removed : (b : Bool) → cond b (endOf w p) (moveOf w k p) .answer ≡ refused y
+            → (cond b (endOf w p) (moveOf w k p) .state ≡ w) × ((y ≡ 7) ⊎ (y ≡ 10))
+        removed true e = impossible (cc)
+        removed false e = impossible (cc)
+
+-- A run that a refused call stopped keeps its moves: it leaves the state after them, and says 10, dry, or 7, out of range.
+pub stopped-walk-leaves-its-moves : (w : Walk) (t x : ℕ)
+    → runFrom stepOf w t .stop ≡ refusal x
+    → (runFrom stepOf w t .state ≡ after stepOf w (length (runFrom stepOf w t .bytes))) × ((x ≡ 7) ⊎ (x ≡ 10))
+stopped-walk-leaves-its-moves w t x stopped =
+    let (left, says) = stopped-run-leaves-its-moves stepOf w t x (λ v y e. refused-call v y e .0) stopped in
+    (left, refused-call (after stepOf w (length (runFrom stepOf w t .bytes))) x says .1)
 
 -- a closed walk has no survey: every call on it gets 7
 pub closed-gets-7 : stepOf closedWalk ≡ refusedWith 7 closedWalk

@@ -78,6 +78,29 @@ run-is-single-calls {S} call s (suc t) = by (call s .answer) refl (run-is-single
     by (given ended) says m = record { moves = λ j h. absurd (omega arith); stops = ends refl (omega arith) says refl }
     by (refused x) says m = record { moves = λ j h. absurd (omega arith); stops = refuses x refl (omega arith) says refl }
 
+-- Where refused calls hand the state back as it came, a run that one of them stopped leaves the state after its moves, and that call
+-- gives its number.
+pub stopped-run-leaves-its-moves : {S : Type 0} (call : S → Handed S Event) (s : S) (t x : ℕ)
+    → ((v : S) (y : ℕ) → call v .answer ≡ refused y → call v .state ≡ v)
+    → runFrom call s t .stop ≡ refusal x
+    → (runFrom call s t .state ≡ after call s (length (runFrom call s t .bytes)))
+    × (call (after call s (length (runFrom call s t .bytes))) .answer ≡ refused x)
+stopped-run-leaves-its-moves call s t x keeps stopped = by (run-is-single-calls call s t .stops)
+  where
+    by : Stops call s t (length (runFrom call s t .bytes)) (runFrom call s t .state) (runFrom call s t .stop)
+        → (runFrom call s t .state ≡ after call s (length (runFrom call s t .bytes)))
+        × (call (after call s (length (runFrom call s t .bytes))) .answer ≡ refused x)
+    by (all z e is) = impossible (cc)
+    by (ends z h a is) = impossible (cc)
+    by (refuses y z h a is) =
+        let same : y ≡ x = ap number (sym z ∙ stopped) in
+        (is ∙ keeps (after call s (length (runFrom call s t .bytes))) y a, a ∙ ap (λ (k : ℕ). refused k) same)
+      where
+        number : Stop → ℕ
+        number nothing = 0
+        number end = 0
+        number (refusal k) = k
+
 -- Two runs one after the other, where nothing stopped the first, are one run of both lengths.
 pub runs-join : {S : Type 0} (call : S → Handed S Event) (s : S) (k t : ℕ)
     → runFrom call s k .stop ≡ nothing
