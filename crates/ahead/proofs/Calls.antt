@@ -18,9 +18,9 @@ use Rattle.gray_theory.specs.Places.{placed, placed-none, placed-append, length
 use Rattle.gray_theory.specs.Radices.{size}
 use Rattle.gray_theory.specs.Refusals.{survey-refused, survey-size}
 use Rattle.gray_theory.specs.Engines.{Event, ended, Handed, after, refusedWith}
-use Rattle.gray_theory.specs.RunCalls.{Stop, nothing, end, refusal, Ran, runFrom, Outcome, Running, runMakes, runWith}
-use Rattle.gray_theory.specs.SingleCalls.{run-in-range-is-made, no-moves-change-nothing}
-use Rattle.gray_theory.specs.RunLaws.{Moved, moved-none, all-made, ends-there, refused-there}
+use Rattle.gray_theory.specs.RunCalls.{Stop, nothing, end, refusal, Outcome, Running}
+use Rattle.gray_theory.specs.SingleCalls.{no-moves-change-nothing}
+use Rattle.gray_theory.specs.RunLaws.{Moved, moved-none, all-made, ends-there, refused-there, run-made-by}
 use Rattle.gray.specs.Enums.{countedAs}
 use Rattle.gray.specs.declared.Counted.{Counted}
 use Rattle.gray.specs.declared.Counted.the-variants.{Size, Refused}
@@ -550,42 +550,22 @@ module _ (w : Walk) (t : ℕ) (before : List ℕ) where
   abbrev handed : Walk → Answer Outcome → List ℕ → Running Walk
   handed v answer out = record { state = v; answer = answer; out = out }
 
-  pub run-faulty : inRange w ≡ false → handed w (refused 7) before ≡ runOf w t before
-  unfolding runWith
-  run-faulty e = rw e
-
   module _ (ranged : inRange w ≡ true) where
-    pub run-short : length before < t → handed w (refused 9) before ≡ runOf w t before
-    unfolding runWith
-    run-short h = rw (ranged, lt-ltb (length before) t h)
-
     run-none : t ≡ 0 → handed w (given (record { made = 0; stop = nothing })) before ≡ runOf w t before
     run-none z = sym (ap (λ (k : ℕ). runOf w k before) z ∙ no-moves-change-nothing inRange stepOf w before ranged)
 
     module _ (fits : t ≤ length before) where
-      runs-by : (r : Ran Walk) (v : Walk) (made : ℕ) (out : List ℕ)
-          → runFrom stepOf w t ≡ r
-          → v ≡ r .state
-          → made ≡ length (r .bytes)
-          → out ≡ r .bytes ++ drop (length (r .bytes)) before
-          → handed v (given (record { made = made; stop = r .stop })) out ≡ runOf w t before
-      runs-by r v made out is same count left =
-          ap (λ (x : Walk). handed x (given (record { made = made; stop = r .stop })) out) same
-          ∙ ap (λ (k : ℕ). handed (r .state) (given (record { made = k; stop = r .stop })) out) count
-          ∙ ap (λ (l : List ℕ). handed (r .state) (given (record { made = length (r .bytes); stop = r .stop })) l) left
-          ∙ sym (run-in-range-is-made inRange stepOf w t before ranged fits ∙ ap (λ (x : Ran Walk). runMakes x before) is)
-
       run-over : (t ≡ 0 → ⊥)
           → w .ended ≡ true
           → handed w (given (record { made = 0; stop = end })) before ≡ runOf w t before
       unfolding after
       run-over some over =
           let is = already-over w ranged over in
-          runs-by (record { state = stepOf w .state; bytes = []; stop = end }) w 0 before
+          run-made-by inRange stepOf w t before ranged fits (record { state = stepOf w .state; bytes = []; stop = end }) w 0 before
           (ends-there stepOf w 0 t [] (moved-none stepOf w) (omega (arith, some)) (ap (λ (h : Handed Walk Event). h .answer) (sym is)))
           (ap (λ (h : Handed Walk Event). h .state) is)
           refl
-          refl
+          (sym (placed-none 0 before))
 
       -- no call is made, or the first meets an ended walk
       pub run-unmoved : (eqb t 0 || w .ended) ≡ true
@@ -606,12 +586,6 @@ module _ (w : Walk) (t : ℕ) (before : List ℕ) where
           (room limit : ℕ) (left : Room w room) (cut : limit ≡ cond (ltb t room) t room) (out : List ℕ) (v : Walk) (made stop : ℕ)
           (b : Calls w limit before out v made stop)
         where
-          placed-all : out ≡ b .written ++ drop (length (b .written)) before
-          unfolding placed
-          placed-all =
-              let z : 0 + length (b .written) ≡ length (b .written) = omega arith in
-              b .leaves ∙ ap (λ j. b .written ++ drop j before) z
-
           limit-most : limit ≤ t
           limit-most =
               elim (decLt t room) [
@@ -649,19 +623,19 @@ module _ (w : Walk) (t : ℕ) (before : List ℕ) where
                     let gone = past-the-end v (omega arith) in
                     let there : stepOf (state w made) ≡ refusedWith 7 (state w made) = subst (λ (x : Walk). stepOf x ≡ refusedWith 7 x) is gone in
                     says (refusal 7) (rw (not-one, not-two, lt-ltb made t less))
-                    (runs-by (record { state = stepOf (state w made) .state; bytes = b .written; stop = refusal 7 }) v made out
+                    (run-made-by inRange stepOf w t before ranged fits (record { state = stepOf (state w made) .state; bytes = b .written; stop = refusal 7 }) v made out
                     (refused-there stepOf w made t (b .written) (b .moved-by) less 7 (ap (λ (h : Handed Walk Event). h .answer) there))
                     (is ∙ sym (ap (λ (h : Handed Walk Event). h .state) there))
                     count-is
-                    placed-all)
+                    (b .leaves))
                 | no all ↦
                     let most : t ≤ made = omega (arith, all) in
                     says nothing (rw (not-one, not-two, le-ltb made t most))
-                    (runs-by (record { state = state w made; bytes = b .written; stop = nothing }) v made out
+                    (run-made-by inRange stepOf w t before ranged fits (record { state = state w made; bytes = b .written; stop = nothing }) v made out
                     (all-made stepOf w made t (b .written) (b .moved-by) (omega arith))
                     is
                     count-is
-                    placed-all)
+                    (b .leaves))
               ]
 
           by : CallsHalted w limit v made stop → handed v (outcomeOf made (stopBy stop made t)) out ≡ runOf w t before
@@ -669,20 +643,20 @@ module _ (w : Walk) (t : ℕ) (before : List ℕ) where
           by (calls.ends z m an is) =
               let l = limit-most in
               says end (rw (eq-eqb stop 1 z))
-              (runs-by (record { state = stepOf (state w made) .state; bytes = b .written; stop = end }) v made out
+              (run-made-by inRange stepOf w t before ranged fits (record { state = stepOf (state w made) .state; bytes = b .written; stop = end }) v made out
               (ends-there stepOf w made t (b .written) (b .moved-by) (omega arith) an)
               is
               count-is
-              placed-all)
+              (b .leaves))
           by (calls.dries z m an is) =
               let l = limit-most in
               let not-one : eqb stop 1 ≡ false = ne-eqb stop 1 (λ e. absurd (omega arith)) in
               says (refusal 10) (rw (not-one, eq-eqb stop 2 z))
-              (runs-by (record { state = stepOf (state w made) .state; bytes = b .written; stop = refusal 10 }) v made out
+              (run-made-by inRange stepOf w t before ranged fits (record { state = stepOf (state w made) .state; bytes = b .written; stop = refusal 10 }) v made out
               (refused-there stepOf w made t (b .written) (b .moved-by) (omega arith) 10 (ap (λ (h : Handed Walk Event). h .answer) an))
               (is ∙ sym (ap (λ (h : Handed Walk Event). h .state) an))
               count-is
-              placed-all)
+              (b .leaves))
 
           -- what its calls come to
           pub run-halted : (a : Answer Outcome) → a ≡ outcomeOf made (stopBy stop made t) → handed v a out ≡ runOf w t before

@@ -3,13 +3,16 @@ use Prim.Native.Nat.{ℕ, zero, suc, _+_, _-_, _≤_, _<_}
 use native.Mathlib.Omega.{arith}
 use native.Mathlib.Numerals.{add-one}
 use mathlib.Core.Path.{_≡_, refl, sym, ap, _∙_}
+use mathlib.Core.Bool.{Bool, true}
 use mathlib.Core.List.{List, [], _∷_, _++_, append-nil, append-assoc}
-use lib.ListN.{length, length-append}
+use lib.ListN.{length, drop, length-append}
 use Rattle.gray_theory.specs.Answers.{Answer, given, refused}
 use Rattle.gray_theory.specs.MoveBytes.{moveByte}
 use Rattle.gray_theory.specs.Changes.{Change}
 use Rattle.gray_theory.specs.Engines.{Event, moved, ended, Handed, after}
-use Rattle.gray_theory.specs.RunCalls.{Stop, nothing, end, refusal, Ran, runThen, runFrom, onto}
+use Rattle.gray_theory.specs.Places.{placed}
+use Rattle.gray_theory.specs.RunCalls.{Stop, nothing, end, refusal, Ran, runThen, runFrom, onto, Outcome, Running, runMakes, runWith}
+use Rattle.gray_theory.specs.SingleCalls.{run-in-range-is-made}
 
 -- after k calls that all moved, with their bytes: whatever is asked for beyond them is a run from there
 pub record Moved {S : Type 0} (call : S → Handed S Event) (s : S) (k : ℕ) (done : List ℕ) : Type 0 where
@@ -73,3 +76,23 @@ module _ {S : Type 0} (call : S → Handed S Event) (s : S) where
       pub refused-there : (x : ℕ) → call (after call s k) .answer ≡ refused x
           → runFrom call s t ≡ record { state = call (after call s k) .state; bytes = done; stop = refusal x }
       refused-there x says = stops-by (refused x) (refusal x) says (λ r. refl)
+
+-- the call where it is accepted, from what an engine has in its hands when its calls have stopped
+pub run-made-by : {S : Type 0} (inRange : S → Bool) (call : S → Handed S Event) (s : S) (t : ℕ) (before : List ℕ)
+    → inRange s ≡ true
+    → t ≤ length before
+    → (r : Ran S) (left : S) (made : ℕ) (out : List ℕ)
+    → runFrom call s t ≡ r
+    → left ≡ r .state
+    → made ≡ length (r .bytes)
+    → out ≡ placed 0 (r .bytes) before
+    → record { state = left; answer = given (record { made = made; stop = r .stop }); out = out } ≡ runWith inRange call s t before
+unfolding placed
+run-made-by {S} inRange call s t before ranged fits r left made out is same count holds =
+    let place : 0 + length (r .bytes) ≡ length (r .bytes) = omega arith in
+    let says : S → ℕ → List ℕ → Running S =
+    λ x k l. record { state = x; answer = given (record { made = k; stop = r .stop }); out = l } in
+    ap (λ (x : S). says x made out) same
+    ∙ ap (λ (k : ℕ). says (r .state) k out) count
+    ∙ ap (λ (l : List ℕ). says (r .state) (length (r .bytes)) l) (holds ∙ ap (λ j. r .bytes ++ drop j before) place)
+    ∙ sym (run-in-range-is-made inRange call s t before ranged fits ∙ ap (λ (x : Ran S). runMakes x before) is)

@@ -5,16 +5,14 @@ use native.Mathlib.Numerals.{add-one}
 use mathlib.Core.Path.{_≡_, refl, sym, ap, subst, _∙_}
 use mathlib.Core.Bool.{Bool, true, false, cond, not}
 use mathlib.Core.List.{List, [], _∷_, _++_}
-use borrow.Author.Tests.{lt-ltb}
-use lib.ListN.{length, getD, set, drop}
+use lib.ListN.{length, getD, set}
 use Rattle.gray_theory.specs.Answers.{given}
 use Rattle.gray_theory.specs.Words.{even}
 use Rattle.gray_theory.specs.MoveBytes.{moveByte}
 use Rattle.gray_theory.specs.Engines.{Event, Handed, after}
 use Rattle.gray_theory.specs.Places.{placed, placed-none, placed-set, length-placed}
-use Rattle.gray_theory.specs.RunCalls.{Stop, nothing, end, runRefused, runFrom, runMakes, runWith}
-use Rattle.gray_theory.specs.SingleCalls.{run-in-range-is-made}
-use Rattle.gray_theory.specs.RunLaws.{Moved, moved-none, moved-more, all-made, ends-there}
+use Rattle.gray_theory.specs.RunCalls.{Stop, nothing, end, runFrom}
+use Rattle.gray_theory.specs.RunLaws.{Moved, moved-none, moved-more, all-made, ends-there, run-made-by}
 use Rattle.digit.specs.Advances.{advancedFrom}
 use Rattle.towers_theory.specs.States.{Towers, disks, inRange}
 use Rattle.towers_theory.specs.Choices.{digitOf, chosen}
@@ -117,14 +115,10 @@ module _ (m : ℕ) (s : Towers) (p : Playing m s) (t : ℕ) (before : List ℕ) 
     stopped : (last : Towers) (stop : Stop)
         → runFrom stepOf s t ≡ record { state = last; bytes = g .done; stop = stop }
         → record { state = last; answer = given (record { made = k; stop = stop }); out = out } ≡ runOf s t before
-    unfolding placed
     stopped last stop is =
-        let n = g .made .count in
-        let place : 0 + length (g .done) ≡ length (g .done) = omega arith in
-        let left : out ≡ g .done ++ drop (length (g .done)) before =
-        g .holds ∙ ap (λ j. g .done ++ drop j before) place in
-        rw (← n, left)
-        (sym (run-in-range-is-made inRange stepOf s t before (p .ranged) room ∙ ap (λ r. runMakes r before) is))
+        run-made-by inRange stepOf s t before (p .ranged) room (record { state = last; bytes = g .done; stop = stop }) last k out is refl
+        (sym (g .made .count))
+        (g .holds)
 
     pub made-all : (last : Towers)
         → last ≡ here
@@ -172,13 +166,3 @@ module _ (m : ℕ) (s : Towers) (p : Playing m s) (t : ℕ) (before : List ℕ) 
                 ∙ ap (λ j. set (placed 0 (g .done) before) j byte) place
                 ∙ placed-set 0 (g .done) before byte (omega arith);
           }
-
--- ---- a run that is refused
-module _ (s : Towers) (t : ℕ) (out : List ℕ) where
-  pub run-faulty : inRange s ≡ false → runRefused 7 s out ≡ runOf s t out
-  unfolding runWith
-  run-faulty e = rw e
-
-  pub run-too-long : inRange s ≡ true → length out < t → runRefused 9 s out ≡ runOf s t out
-  unfolding runWith
-  run-too-long e h = rw (e, lt-ltb (length out) t h)

@@ -3,7 +3,8 @@ use mathlib.Core.Path.{sym, _∙_}
 use borrow.Author.Tests.{not-true, not-false}
 use lib.Dec.{eqb}
 use Rattle.gray_theory.specs.Bools.{neither}
-use Rattle.ahead.proofs.Calls.{run-faulty, run-short, run-unmoved, calls-ready, run-halted}
+use Rattle.gray_theory.specs.SingleCalls.{run-out-of-range-is-refused, run-into-shorter-memory-is-refused}
+use Rattle.ahead.proofs.Calls.{run-unmoved, calls-ready, run-halted}
 use borrow.Author.Needs.{needs}
 use Rattle.ahead.proofs.Walk.run.Statement.{statement}
 use Rattle.ahead.proofs.Walk.run.Tie as tie
@@ -12,10 +13,10 @@ in-range-requires : tie.Need-in-range-requires
 in-range-requires c κs = search needs
 
 returns : tie.Need-returns
-returns c = run-faulty _ _ _ (sym (c .before .in-range .ensures) ∙ not-true _ (c .if1 .taken))
+returns c = sym (run-out-of-range-is-refused _ _ _ _ _ (sym (c .before .in-range .ensures) ∙ not-true _ (c .if1 .taken)))
 
 returns-2 : tie.Need-returns-2
-returns-2 c = run-short _ _ _ (sym (c .before .before .in-range .ensures) ∙ not-false _ (c .before .if1 .left)) (c .if2 .taken)
+returns-2 c = sym (run-into-shorter-memory-is-refused _ _ _ _ _ (sym (c .before .before .in-range .ensures) ∙ not-false _ (c .before .if1 .left)) (c .if2 .taken))
 
 unmoved-requires : tie.Need-unmoved-requires
 unmoved-requires c κs = search needs

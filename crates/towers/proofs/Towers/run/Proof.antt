@@ -3,11 +3,11 @@ use mathlib.Core.Path.{_≡_, sym, _∙_}
 use mathlib.Core.Bool.{true}
 use borrow.Author.Needs.{needs}
 use borrow.Author.Tests.{not-true, not-false}
+use Rattle.gray_theory.specs.SingleCalls.{run-out-of-range-is-refused, run-into-shorter-memory-is-refused}
 use Rattle.towers_theory.specs.States.{Towers, inRange}
 use Rattle.towers_theory.specs.InRange.{Arrays}
 use Rattle.towers.specs.Structs.{towersAs}
 use Rattle.towers.proofs.Steps.{survey-right}
-use Rattle.towers.proofs.Runs.{run-faulty, run-too-long}
 use Rattle.towers.proofs.Towers.run.Statement.{statement}
 use Rattle.towers.proofs.Towers.run.Tie as tie
 
@@ -28,10 +28,10 @@ in-range-requires : tie.Need-in-range-requires
 in-range-requires c κs = search needs
 
 returns : tie.Need-returns
-returns c = run-faulty _ _ _ (sym (c .before .in-range .ensures) ∙ not-true _ (c .if1 .taken))
+returns c = sym (run-out-of-range-is-refused _ _ _ _ _ (sym (c .before .in-range .ensures) ∙ not-true _ (c .if1 .taken)))
 
 returns-2 : tie.Need-returns-2
-returns-2 c = run-too-long _ _ _ (ranged (c .before)) (c .if2 .taken)
+returns-2 c = sym (run-into-shorter-memory-is-refused _ _ _ _ _ (ranged (c .before)) (c .if2 .taken))
 
 last-radix-requires : tie.Need-last-radix-requires
 last-radix-requires c κs =
