@@ -34,7 +34,13 @@ int64_t gray_list(const uint8_t *radices, size_t n, uint64_t from, uint64_t coun
  * set *made to 0: 2 3 4 5, then 9 if len is below t, even where the walk would end sooner. */
 int64_t gray_moves(const uint8_t *radices, size_t n, size_t capacity, uint64_t t, uint8_t *out, size_t len, uint64_t *made);
 
-/* The same by the disk engine, which is never dry. Refusals 2 3 4 6 9. */
+/* The same from a setting: a walk picked up at word (len bytes, sluice n first) and one run of at most t moves, with the values
+ * of gray_moves. The moves are the list's from that setting on; at the last setting the walk ends at once. Refusals 2 3 4 5,
+ * then 8 if len is not n or a notch is not below its count, then 9 if out_len is below t. */
+int64_t gray_resume_moves(const uint8_t *radices, size_t n, size_t capacity, const uint8_t *word, size_t len, uint64_t t,
+                          uint8_t *out, size_t out_len, uint64_t *made);
+
+/* gray_moves by the disk engine, which is never dry. Refusals 2 3 4 6 9. */
 int64_t gray_towers(const uint8_t *radices, size_t n, uint64_t t, uint8_t *out, size_t len, uint64_t *made);
 
 /* The log of the first moves; the bytes written. Refusals 2 3 4 5 8 9. */

@@ -16,6 +16,17 @@ mod c {
             len: usize,
             made: *mut u64,
         ) -> i64;
+        pub fn gray_resume_moves(
+            radices: *const u8,
+            n: usize,
+            capacity: usize,
+            word: *const u8,
+            len: usize,
+            t: u64,
+            out: *mut u8,
+            out_len: usize,
+            made: *mut u64,
+        ) -> i64;
         pub fn gray_towers(radices: *const u8, n: usize, t: u64, out: *mut u8, len: usize, made: *mut u64) -> i64;
         pub fn gray_log_write(radices: *const u8, n: usize, capacity: usize, moves: u64, out: *mut u8, len: usize) -> i64;
         pub fn gray_log_read(log: *const u8, len: usize) -> i64;
@@ -96,7 +107,15 @@ pub fn moves(radices: &[u8], capacity: usize, t: u64, out: &mut [u8]) -> Run {
     run(|made| unsafe { c::gray_moves(radices.as_ptr(), n, capacity, t, out.as_mut_ptr(), len, made) })
 }
 
-/// The same by the disk engine.
+/// A walk of the buffered engine picked up at a setting, and a run of at most `t` moves, their bytes at the start of `out`.
+#[inline]
+pub fn resume_moves(radices: &[u8], capacity: usize, word: &[u8], t: u64, out: &mut [u8]) -> Run {
+    let (n, len, out_len) = (radices.len(), word.len(), out.len());
+    let (radices, word, out) = (radices.as_ptr(), word.as_ptr(), out.as_mut_ptr());
+    run(|made| unsafe { c::gray_resume_moves(radices, n, capacity, word, len, t, out, out_len, made) })
+}
+
+/// A run of the disk engine from the start.
 #[inline]
 pub fn towers(radices: &[u8], t: u64, out: &mut [u8]) -> Run {
     run(|made| unsafe { c::gray_towers(radices.as_ptr(), radices.len(), t, out.as_mut_ptr(), out.len(), made) })

@@ -3,3 +3,7 @@ pub mod Ranges
 pub mod Steps
 pub mod Loads
 pub mod Calls
+pub mod Openings
+pub mod Stands
+pub mod Fills
+pub mod Resumes

@@ -1,4 +1,4 @@
--- What a stage of the range rule or of an opening says, over plain lists and numbers. Assumes nothing.
+-- What a stage of the range rule says, over plain lists and numbers. Assumes nothing.
 use Prim.Native.Nat.{ℕ, _+_, _≤_, _<_}
 use native.Mathlib.Omega.{arith}
 use mathlib.Core.Path.{_≡_, refl, sym, ap, ap₂, _∙_}
@@ -6,22 +6,18 @@ use mathlib.Core.Bool.{Bool, true, false, _&&_, not, and-false}
 use mathlib.Core.List.{List, [], _∷_}
 use borrow.Author.Tests.{le-leb, lt-leb}
 use lib.Dec.{ltb, leb}
-use lib.ListN.{length, getD, take, length-reverse, List·getD-append}
-use lib.Seq.{length-take-le, getD-take, getD-at, take-all}
-use Rattle.gray_theory.specs.Answers.{given, refused, refusing, isGiven}
+use lib.ListN.{length, getD, take, List·getD-append}
+use lib.Seq.{length-take-le, getD-take, getD-at}
+use Rattle.gray_theory.specs.Answers.{given, isGiven}
 use Rattle.gray_theory.specs.Radices.{digits, size, allFrom}
-use Rattle.gray_theory.specs.Locks.{MovingDigits, unlocked, movingDigits, movingInRange}
+use Rattle.gray_theory.specs.Locks.{movingInRange}
 use Rattle.gray_theory.specs.Unlocked.{unlocked-two, unlocked-most, all-unlocked, moving-says, lookedUp, number-at, number-direct, moving-looked-up}
 use Rattle.gray_theory.specs.Directions.{allBelow, digitsInRange}
 use Rattle.gray_theory.specs.DigitRanges.{allBelow-same, tested-more}
 use Rattle.gray_theory.specs.Calls.{sizeCall}
-use Rattle.gray_theory.specs.Arrays.{digitArray, filled}
-use Rattle.gray_theory.specs.Filled.{digit-array, take-filled, length-filled}
-use Rattle.gray_theory.specs.Refusals.{accepted, radices-accepted, survey-accepted, given-unless}
-use Rattle.gray_theory.specs.Engines.{refusedWith}
+use Rattle.gray_theory.specs.Refusals.{accepted, survey-accepted, given-unless}
 use Rattle.gray_theory.specs.Capacities.{wrongCapacity}
 use Rattle.ahead_theory.specs.States.{Walk, openCheck, survey, movingRadices, places, isPlace, counterInRange, entriesInRange, producerInRange, stepLimit, inRange}
-use Rattle.ahead_theory.specs.Calls.{freshWith, fresh, openWith, openOf}
 use Rattle.ahead_theory.specs.InRange.{Arrays, Ranged, survey-openable}
 use Rattle.ahead.specs.Stages.{Numbers, Numbered, movingOf, Survey, Known}
 
@@ -138,44 +134,10 @@ module _ (w : Walk) (a : Arrays w) (k : Known w) where
         (e ∙ ap₂ (λ k ms. allBelow k (λ i. ltb (getD counter i 0) (getD ms i 0))) (taken ∙ moving-count) looked)
         f
 
--- ---- an opening
--- the checks once the radices are accepted
-module _ (l : List ℕ) (c n : ℕ) (accept : sizeCall l ≡ given n) where
-  pub capacity-tested : (wrong : Bool) → wrongCapacity c ≡ wrong → isGiven (openCheck l c) ≡ not wrong
-  capacity-tested wrong f = ap isGiven (survey-accepted l _ n accept) ∙ given-unless 5 (wrongCapacity c) tt ∙ ap not f
-
-  check-passed : (wrong : Bool) → wrongCapacity c ≡ wrong → openCheck (digits l) c ≡ refusing 5 wrong (given tt)
-  check-passed wrong f = radices-accepted l n _ accept ∙ ap (λ b. refusing 5 b (given tt)) f
-
--- what an opening hands back
-module _ (w : Walk) (l : List ℕ) (c : ℕ) where
-  pub opening-refused : (k : ℕ) → refused k ≡ openCheck (digits l) c → refusedWith k w ≡ openOf w l c
-  unfolding openOf
-  opening-refused k e = ap (openWith w (digits l) c) e
-
-  pub capacity-refused : (n : ℕ) → sizeCall l ≡ given n → wrongCapacity c ≡ true → refusedWith 5 w ≡ openOf w l c
-  capacity-refused n e f = opening-refused 5 (sym (check-passed l c n e true f))
-
-  pub opening-given : (n : ℕ) (opened : Walk) (radices : List ℕ) (moving : MovingDigits)
-      → sizeCall l ≡ given n
-      → wrongCapacity c ≡ false
-      → radices ≡ digitArray l
-      → moving ≡ movingDigits (take 48 (take (length l) radices))
-      → opened ≡ freshWith radices (length l) moving c
-      → record { state = opened; answer = given tt } ≡ openOf w l c
-  unfolding openOf fresh
-  opening-given n opened radices moving e f g m h =
-      let most = accepted l n e .most in
-      let long = length-reverse l in
-      let all : radices ≡ filled 48 0 (digits l) = g ∙ digit-array l most in
-      let own : moving ≡ movingDigits (digits l) =
-      m
-      ∙ ap₂ (λ k t. movingDigits (take 48 (take k t))) (sym long) all
-      ∙ ap (λ t. movingDigits (take 48 t)) (take-filled 48 0 (digits l))
-      ∙ ap movingDigits (take-all 48 (digits l) (omega arith)) in
-      let made : opened ≡ fresh (digits l) c =
-      h ∙ ap₂ (λ t k. freshWith t k moving c) all (sym long) ∙ ap (λ v. freshWith (filled 48 0 (digits l)) (length (digits l)) v c) own in
-      ap (λ t. record { state = t; answer = given tt }) made ∙ ap (openWith w (digits l) c) (sym (check-passed l c n e false f))
+-- ---- the stages of the range rule
+-- the capacity, once the survey is accepted
+pub capacity-tested : (l : List ℕ) (c n : ℕ) → sizeCall l ≡ given n → (wrong : Bool) → wrongCapacity c ≡ wrong → isGiven (openCheck l c) ≡ not wrong
+capacity-tested l c n accept wrong f = ap isGiven (survey-accepted l _ n accept) ∙ given-unless 5 (wrongCapacity c) tt ∙ ap not f
 
 -- what the stages that are passed say
 module _ (w : Walk) where

@@ -6,3 +6,4 @@ pub mod Structs
 -- what private functions ask for and answer
 pub mod Stages
 pub mod Stretches
+pub mod Pickups

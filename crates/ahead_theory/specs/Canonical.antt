@@ -11,7 +11,7 @@ use mathlib.Core.List.{List, [], _∷_, _++_}
 use borrow.Author.Tests.{eq-eqb, ne-eqb, lt-ltb, le-ltb}
 use lib.Dec.{eqb, ltb}
 use lib.ListN.{length, getD, set, length-append}
-use Rattle.gray_theory.specs.Radices.{size}
+use Rattle.gray_theory.specs.Radices.{size, mixedDigits}
 use Rattle.gray_theory.specs.Changes.{ruler}
 use Rattle.gray_theory.specs.Rulers.{ruler-at-end}
 use Rattle.gray_theory.specs.Arrays.{filled}
@@ -21,7 +21,7 @@ use Rattle.gray_theory.specs.Filled.{getD-filled, set-filled, filled-append}
 use Rattle.ahead_theory.specs.States.{Producer, Walk, places}
 use Rattle.ahead_theory.specs.Work.{Work, carry, append, idle, countAt, radixAt, runOut, kind, done}
 use Rattle.ahead_theory.specs.InRange.{last-is-two, runs-out, carries-on as kind-carry, appends-one as kind-append, stays-full as kind-idle}
-use Rattle.ahead_theory.specs.Counters.{mixedDigits, cleared, length-mixedDigits, length-cleared, cleared-at, carry-test, carry-clears, append-counts, ruler-most, ruler-places, ruler-at-multiple, allFrom-places, length-places, size-places}
+use Rattle.ahead_theory.specs.Counters.{cleared, length-mixedDigits, length-cleared, cleared-at, carry-test, carry-clears, append-counts, ruler-most, ruler-places, ruler-at-multiple, allFrom-places, length-places, size-places}
 use Rattle.ahead_theory.specs.Positions.{Buffered, Position, Worked, Worked.carried, Worked.appended, Worked.idled, Worked.spent, stepsAt, one, gained, work-steps}
 
 -- ---- the entries queued

@@ -10,17 +10,12 @@ use borrow.Author.Tests.{leb-true, le-leb, lt-ltb, eq-eqb, ne-eqb}
 use lib.Dec.{leb, ltb, eqb, leb·suc-suc}
 use lib.ListN.{length, getD, drop, set, replicate, length-append, length-drop, length-replicate}
 use lib.Seq.{drop-nil}
-use Rattle.gray_theory.specs.Radices.{size, allFrom}
+use Rattle.gray_theory.specs.Radices.{size, mixedDigits, allFrom}
 use Rattle.gray_theory.specs.Changes.{ruler}
 use Rattle.gray_theory.specs.Sizes.{allFrom-append, size-append, quotient-below}
 use Rattle.gray_theory.specs.Increments.{Increment, Increment.no-carry, Increment.carry, increment}
 use Rattle.gray_theory.specs.Rulers.{ruler-carry, ruler-no-carry, ruler-pos}
 use Rattle.ahead_theory.specs.States.{places}
-
--- the digits of e, digit 1 first
-unfoldable pub mixedDigits : List ℕ → ℕ → List ℕ
-mixedDigits [] e = []
-mixedDigits (m ∷ ms) e = e % m ∷ mixedDigits ms (e / m)
 
 -- the first p places are 0
 abbrev pub cleared : ℕ → List ℕ → List ℕ

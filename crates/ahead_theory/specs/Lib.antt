@@ -5,9 +5,13 @@ pub mod States
 pub mod Work
 pub mod Calls
 pub mod Runs
+pub mod Pickups
 -- what is promised of whole runs, and the theorems
 pub mod Demand
+pub mod GoingOn
 pub mod WorkAhead
+pub mod PickedUp
+pub mod Examples
 pub mod Openings
 pub mod Kept
 -- the run: its numbers and their invariants, the states that follow from them, one call, the events, the phases, the clauses
@@ -15,6 +19,8 @@ pub mod Positions
 pub mod Canonical
 pub mod Ranged
 pub mod Rounds
+pub mod Capacity
+pub mod Standing
 pub mod Tallies
 pub mod Phases
 pub mod Clauses
@@ -22,6 +28,8 @@ pub mod Clauses
 pub mod Entries
 pub mod Counters
 pub mod InRange
+pub mod Filling
+pub mod FillLaws
 -- a run of moves on local arrays: its model, what it leaves undone, and that it is the engine's
 pub mod Locals
 pub mod Stretches

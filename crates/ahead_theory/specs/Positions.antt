@@ -135,6 +135,12 @@ Ahead ms t x s = (d : ℕ) → t + suc d ≤ size ms → cost ms (t + suc d) + x
 pub ahead-fresh : (ms : List ℕ) → allFrom 2 ms ≡ true → Ahead ms 0 0 0
 ahead-fresh ms two d h = let b = cost-below-double ms two (0 + suc d) (omega arith) in omega arith
 
+-- an entry that is queued has cost no more than the last of them
+queued-cost : (ms : List ℕ) → allFrom 2 ms ≡ true → (t k d : ℕ) → d < k → cost ms (t + suc d) ≤ cost ms (t + k)
+queued-cost ms two t k d h =
+    let e : t + suc d + (k - suc d) ≡ t + k = omega arith in
+    rw e at (cost-mono ms (one ms two) (t + suc d) (k - suc d))
+
 -- an idle step: c entries are queued, so that an entry further on has c more calls before its removal, and a burst of entries
 -- costs no more than those allow
 ahead-idle : (ms : List ℕ) (c t p x : ℕ)
@@ -147,10 +153,7 @@ ahead-idle : (ms : List ℕ) (c t p x : ℕ)
 ahead-idle ms c t p x v enough small last d =
     let n = entry-costs-ruler ms (one ms (v .two)) (t + c) in
     elim (decLt d c) [
-      | yes q ↦
-          let e : t + suc d + (c - suc d) ≡ t + c = omega arith in
-          let m : cost ms (t + suc d) ≤ cost ms (t + c) = rw e at (cost-mono ms (one ms (v .two)) (t + suc d) (c - suc d)) in
-          omega arith
+      | yes q ↦ let m = queued-cost ms (v .two) t c d q in omega arith
       | no q ↦
           let f = d - c in
           let e : t + suc d ≡ suc (t + c) + f = omega arith in
@@ -182,8 +185,7 @@ ahead-work {ms} {c} {t} {k} {p} x v enough small (idled h full) a d within =
     omega arith
 ahead-work {ms} {c} {t} {k} {p} x v enough small (spent h) a d within =
     let pos = size-pos ms (one ms (v .two)) in
-    let e : t + suc d + (k - suc d) ≡ t + k = omega arith in
-    let m : cost ms (t + suc d) ≤ cost ms (t + k) = rw e at (cost-mono ms (one ms (v .two)) (t + suc d) (k - suc d)) in
+    let m = queued-cost ms (v .two) t k d (omega arith) in
     omega arith
 
 -- a removal
@@ -207,6 +209,21 @@ ahead-queued {ms} {c} {t} {k} {p} two at below a =
     let same = ap (cost ms) e in
     let f = paid two at (suc t) (omega arith) in
     omega arith
+
+-- a full queue is ahead, whatever the rank, with places for half of the digits; and one that holds the last entry is at any capacity
+pub ahead-full : (ms : List ℕ) (c t p : ℕ) → Buffered ms c → length ms ≤ 2 * c → Ahead ms t 0 (stepsAt ms t c p)
+ahead-full ms c t p v enough d within =
+    elim (decLt d c) [
+      | yes q ↦ let m = queued-cost ms (v .two) t c d q in omega arith
+      | no q ↦
+          let e : t + suc d ≡ t + c + suc (d - c) = omega arith in
+          let same = ap (cost ms) e in
+          let b = cost-burst ms (v .two) (t + c) (suc (d - c)) (omega arith) in
+          omega arith
+    ]
+
+pub ahead-whole : (ms : List ℕ) (c t k p : ℕ) → Buffered ms c → size ms ≤ t + k → Ahead ms t 0 (stepsAt ms t k p)
+ahead-whole ms c t k p v whole d within = let m = queued-cost ms (v .two) t k d (omega arith) in omega arith
 
 -- ---- behind
 -- once all entries but the last are finished, at most 2 c + 1 useful steps are made before the call that removes the last one.

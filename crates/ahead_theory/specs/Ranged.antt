@@ -8,7 +8,7 @@ use mathlib.Core.Bool.{Bool, true}
 use mathlib.Core.List.{List, [], _∷_}
 use lib.ListN.{length, getD, List·getD-append}
 use lib.Seq.{getD-at}
-use Rattle.gray_theory.specs.Radices.{size}
+use Rattle.gray_theory.specs.Radices.{size, mixedDigits}
 use Rattle.gray_theory.specs.Changes.{ruler}
 use Rattle.gray_theory.specs.Rulers.{ruler-pos}
 use Rattle.gray_theory.specs.Answers.{isGiven}
@@ -19,13 +19,13 @@ use Rattle.gray_theory.specs.WalkArrays.{arrays-in-range}
 use Rattle.gray_theory.specs.Filled.{take-filled, getD-filled}
 use Rattle.ahead_theory.specs.States.{Producer, survey, places, producerInRange, stepLimit, inRange}
 use Rattle.ahead_theory.specs.InRange.{IsPlace, says-producer, says-range}
-use Rattle.ahead_theory.specs.Counters.{mixedDigits, cleared, length-mixedDigits, mixed-below, length-cleared, cleared-below, ruler-most, allFrom-places, length-places}
+use Rattle.ahead_theory.specs.Counters.{cleared, length-mixedDigits, mixed-below, length-cleared, cleared-below, ruler-most, allFrom-places, length-places}
 use Rattle.gray_theory.specs.Capacities.{Openable}
 use Rattle.ahead_theory.specs.Openings.{opens}
 use Rattle.ahead_theory.specs.Positions.{Buffered, Position, one}
 use Rattle.ahead_theory.specs.Canonical.{entries, length-entries, producerAt, walkAt}
 
-getD-entries : (ms : List ℕ) (t k i : ℕ) → i < k → getD (entries ms t k) i 0 ≡ ruler ms (suc (t + i))
+pub getD-entries : (ms : List ℕ) (t k i : ℕ) → i < k → getD (entries ms t k) i 0 ≡ ruler ms (suc (t + i))
 unfolding entries
 getD-entries ms t zero i h = absurd (omega arith)
 getD-entries ms t (suc k) i h =

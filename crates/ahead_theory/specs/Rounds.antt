@@ -7,7 +7,7 @@ use mathlib.Core.Bool.{true, false}
 use mathlib.Core.List.{List, [], _∷_, _++_}
 use lib.ListN.{length, getD, drop}
 use Rattle.gray_theory.specs.Answers.{given}
-use Rattle.gray_theory.specs.Radices.{size}
+use Rattle.gray_theory.specs.Radices.{size, mixedDigits}
 use Rattle.gray_theory.specs.Changes.{Change, change, ruler}
 use Rattle.gray_theory.specs.Locks.{unlocked, movingDigits}
 use Rattle.gray_theory.specs.Unlocked.{size-unlocked, unlocked-two, length-moving, entry-number, moving-stored}
@@ -22,7 +22,7 @@ use Rattle.ahead_theory.specs.Work.{Work, kind, done, work}
 use Rattle.ahead_theory.specs.Calls.{once, twice, dry, removing, course, dequeued, endOf, moveOf, stepOf}
 use Rattle.ahead_theory.specs.Runs.{eventsBy}
 use Rattle.ahead_theory.specs.Kept.{goes-dry, goes-removing, removes-last, removes-digit}
-use Rattle.ahead_theory.specs.Counters.{mixedDigits, cleared}
+use Rattle.ahead_theory.specs.Counters.{cleared}
 use Rattle.gray_theory.specs.Capacities.{Openable}
 use Rattle.ahead_theory.specs.Positions.{buffered, Position, Worked, one, gained, work-position}
 use Rattle.ahead_theory.specs.Canonical.{entries, length-entries, entries-first, same-producer, same-walk, producerAt, walkAt, Does, does}
@@ -50,7 +50,7 @@ pub record Round (ms : List ℕ) (c s t k p : ℕ) : Type 0 where
 abbrev pub stepsAfter : {ms : List ℕ} {c s t k p : ℕ} → Round ms c s t k p → ℕ
 stepsAfter {s = s} r = s + gained (r .e₁) + gained (r .e₂)
 
-work-is : {ws : List ℕ} {c s t k p : ℕ} {e : Work} {k′ p′ : ℕ}
+pub work-is : {ws : List ℕ} {c s t k p : ℕ} {e : Work} {k′ p′ : ℕ}
     → Does ws c s t k p e k′ p′
     → work ws c (producerAt ws s t k p) ≡ producerAt ws (s + gained e) t k′ p′
 work-is {ws} {c} {s} {t} {k} {p} d = ap (λ (e : Work). done e (producerAt ws s t k p)) (d .is-kind) ∙ d .leaves

@@ -10,7 +10,6 @@ use Rattle.gray_theory.specs.Bounds.{entry-costs-ruler, cost-below-double}
 use Rattle.ahead_theory.specs.Work.{Work, carry, append, idle}
 use Rattle.ahead_theory.specs.Runs.{useful, appends}
 use Rattle.ahead_theory.specs.Demand.{Finished}
-use Rattle.ahead_theory.specs.Entries.{cost-zero}
 use Rattle.ahead_theory.specs.Positions.{Worked, Worked.carried, Worked.appended, Worked.idled, Worked.spent, stepsAt, one}
 
 -- ---- one event more
@@ -71,78 +70,77 @@ costed-at ms a u (append ∷ es) later c =
 costed-at ms a u (idle ∷ es) later c = costed-at ms a u es later c
 
 -- ---- the events of a run
--- they fit the numbers that the run has come to
-pub record Tallied (ms : List ℕ) (t k p : ℕ) (es : List Work) : Type 0 where
-  pub steps : useful es ≡ stepsAt ms t k p
-  pub entries : appends es ≡ t + k
-  costs : Costed ms 0 0 es
+-- they fit the numbers that the run has come to, from a entries finished by u useful steps
+pub record Tallied (ms : List ℕ) (a u t k p : ℕ) (es : List Work) : Type 0 where
+  pub steps : u + useful es ≡ stepsAt ms t k p
+  pub entries : a + appends es ≡ t + k
+  costs : Costed ms a u es
 
-pub tally-start : (ms : List ℕ) → Tallied ms 0 0 0 []
+pub tally-start : (ms : List ℕ) (t k p : ℕ) → Tallied ms (t + k) (stepsAt ms t k p) t k p []
 unfolding Costed useful appends
-tally-start ms = let z = cost-zero ms in record { steps = omega arith; entries = omega arith; costs = tt }
+tally-start ms t k p = record { steps = omega arith; entries = omega arith; costs = tt }
 
-pub tally-work : {ms : List ℕ} {c t k p : ℕ} {e : Work} {k′ p′ : ℕ} {es : List Work}
-    → allFrom 2 ms ≡ true
-    → Worked ms c t k p e k′ p′
-    → Tallied ms t k p es
-    → Tallied ms t k′ p′ (es ++ (e ∷ []))
-unfolding Costed useful appends
-tally-work {ms} {t = t} {k = k} {es = es} two (carried h) r =
-    let u = useful-more es carry in
-    let a = appends-more es carry in
+-- a step that appends nothing
+tally-same : {ms : List ℕ} {a u t k p : ℕ} {es : List Work} (e : Work) (k′ p′ : ℕ)
+    → useful (e ∷ []) + stepsAt ms t k p ≡ stepsAt ms t k′ p′
+    → appends (e ∷ []) + k ≡ k′
+    → Costed ms (a + appends es) (u + useful es) (e ∷ [])
+    → Tallied ms a u t k p es
+    → Tallied ms a u t k′ p′ (es ++ (e ∷ []))
+tally-same {ms} {a} {u} {t} {k} {p} {es} e k′ p′ more queued costs r =
+    let um = useful-more es e in
+    let am = appends-more es e in
     let s = r .steps in
     let n = r .entries in
-    record { steps = omega arith; entries = omega arith; costs = costed-more ms 0 0 es carry (r .costs) tt }
-tally-work {ms} {t = t} {k = k} {p = p} {es = es} two (appended h room more) r =
-    let u = useful-more es append in
-    let a = appends-more es append in
+    record { steps = omega arith; entries = omega arith; costs = costed-more ms a u es e (r .costs) costs }
+
+pub tally-work : {ms : List ℕ} {c a u t k p : ℕ} {e : Work} {k′ p′ : ℕ} {es : List Work}
+    → allFrom 2 ms ≡ true
+    → Worked ms c t k p e k′ p′
+    → Tallied ms a u t k p es
+    → Tallied ms a u t k′ p′ (es ++ (e ∷ []))
+unfolding Costed useful appends
+tally-work {k = k} {p = p} two (carried h) r = tally-same carry k (suc p) (omega arith) (omega arith) tt r
+tally-work {ms} {a = a} {u} {t} {k} {p} {es = es} two (appended h room more) r =
     let s = r .steps in
     let n = r .entries in
     let next = entry-costs-ruler ms (one ms two) (t + k) in
     let e : suc (t + k) ≡ t + suc k = omega arith in
     let same = ap (cost ms) e in
-    let f : suc (0 + appends es) ≡ suc (t + k) = omega arith in
-    let here : suc (0 + useful es) ≡ cost ms (suc (0 + appends es)) = rw f (omega arith) in
-    record { steps = omega arith; entries = omega arith; costs = costed-more ms 0 0 es append (r .costs) (here, tt) }
-tally-work {ms} {es = es} two (idled h full) r =
-    let u = useful-more es idle in
-    let a = appends-more es idle in
-    let s = r .steps in
-    let n = r .entries in
-    record { steps = omega arith; entries = omega arith; costs = costed-more ms 0 0 es idle (r .costs) tt }
-tally-work {ms} {es = es} two (spent h) r =
-    let u = useful-more es idle in
-    let a = appends-more es idle in
-    let s = r .steps in
-    let n = r .entries in
-    record { steps = omega arith; entries = omega arith; costs = costed-more ms 0 0 es idle (r .costs) tt }
+    let f : suc (a + appends es) ≡ suc (t + k) = omega arith in
+    let here : suc (u + useful es) ≡ cost ms (suc (a + appends es)) = rw f (omega arith) in
+    tally-same append (suc k) 0 (omega arith) (omega arith) (here, tt) r
+tally-work {k = k} {p = p} two (idled h full) r = tally-same idle k p (omega arith) (omega arith) tt r
+tally-work {k = k} {p = p} two (spent h) r = tally-same idle k p (omega arith) (omega arith) tt r
 
 -- the two work steps of a call
-pub tally-twice : {ms : List ℕ} {c t k p : ℕ} {e₁ e₂ : Work} {k₁ p₁ k₂ p₂ : ℕ} {es : List Work}
+pub tally-twice : {ms : List ℕ} {c a u t k p : ℕ} {e₁ e₂ : Work} {k₁ p₁ k₂ p₂ : ℕ} {es : List Work}
     → allFrom 2 ms ≡ true
     → Worked ms c t k p e₁ k₁ p₁
     → Worked ms c t k₁ p₁ e₂ k₂ p₂
-    → Tallied ms t k p es
-    → Tallied ms t k₂ p₂ (es ++ (e₁ ∷ e₂ ∷ []))
+    → Tallied ms a u t k p es
+    → Tallied ms a u t k₂ p₂ (es ++ (e₁ ∷ e₂ ∷ []))
 tally-twice {ms} {t = t} {e₁ = e₁} {e₂} {k₂ = k₂} {p₂} {es} two w₁ w₂ r =
     rw (append-assoc es (e₁ ∷ []) (e₂ ∷ [])) at (tally-work two w₂ (tally-work two w₁ r))
 
 -- a removal
-pub tally-remove : {ms : List ℕ} {t k p : ℕ} {es : List Work} → Tallied ms t (suc k) p es → Tallied ms (suc t) k p es
-tally-remove {ms} {t} {k} {p} r =
+pub tally-remove : {ms : List ℕ} {a u t k p : ℕ} {es : List Work} → Tallied ms a u t (suc k) p es → Tallied ms a u (suc t) k p es
+tally-remove {ms} {t = t} {k} {p} r =
     let e : t + suc k ≡ suc t + k = omega arith in
     record { steps = r .steps ∙ ap (λ (j : ℕ). cost ms j + p) e; entries = r .entries ∙ e; costs = r .costs }
 
--- the step that appends an entry
-pub tally-finished : {ms : List ℕ} {t k p : ℕ} {es : List Work} (before later : List Work)
+-- the step that appends an entry, in a run from the start
+pub tally-finished : {ms : List ℕ} {a u t k p : ℕ} {es : List Work} (before later : List Work)
     → allFrom 2 ms ≡ true
-    → Tallied ms t k p es
+    → a ≡ 0
+    → u ≡ 0
+    → Tallied ms a u t k p es
     → es ≡ before ++ append ∷ later
     → Finished ms before
-tally-finished {ms} {es = es} before later two r e =
-    let z : 0 + useful before ≡ useful before = omega arith in
-    let y : 0 + appends before ≡ appends before = omega arith in
+tally-finished {ms} {a} {u} {es = es} before later two none start r e =
+    let z : u + useful before ≡ useful before = omega arith in
+    let y : a + appends before ≡ appends before = omega arith in
     let f : suc (useful before) ≡ cost ms (suc (appends before)) =
-    rw (z, y) at (costed-at ms 0 0 before later (rw e at (r .costs))) in
+    rw (z, y) at (costed-at ms a u before later (rw e at (r .costs))) in
     let d = cost-below-double ms two (suc (appends before)) (omega arith) in
     record { formula = f; double = rw (← f) at d }

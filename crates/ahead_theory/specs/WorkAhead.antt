@@ -26,7 +26,7 @@ pub fresh-walks-work-ahead : (w : Walk) (radices : List ℕ) (c : ℕ)
 fresh-walks-work-ahead w radices c accepted =
     let o = opens-exactly w radices c .0 accepted in
     let pos = size-pos (digits radices) (o .survey .one) in
-    rw (opens-fresh w radices c accepted) (run-works-ahead (digits radices) c (size (digits radices) - 1) o (omega arith))
+    rw (opens-fresh w radices c accepted) (run-works-ahead (digits radices) c o (size (digits radices) - 1) (omega arith))
 
 -- Every state of such a run is in range, so that no call of it gets 7, and unless all digits are locked the counter never runs out:
 -- the idle rule at its last place is not met.
@@ -36,7 +36,7 @@ pub fresh-walks-stay-in-range : (w : Walk) (radices : List ℕ) (c : ℕ)
 fresh-walks-stay-in-range w radices c accepted =
     let o = opens-exactly w radices c .0 accepted in
     let pos = size-pos (digits radices) (o .survey .one) in
-    rw (opens-fresh w radices c accepted) (run-stays-in-range (digits radices) c (size (digits radices) - 1) o (omega arith))
+    rw (opens-fresh w radices c accepted) (run-stays-in-range (digits radices) c o (size (digits radices) - 1) (omega arith))
 
 -- With all digits locked N is 1, and whatever the capacity is the first call is the end: its first work step appends the end entry,
 -- and its second meets the idle rule at the counter's last place.

@@ -12,7 +12,7 @@ ghost use Rattle.gray.specs.Enums.{countedAs, rankedAs, writtenAs, runningAs};
 ghost use Rattle.lister_theory.specs.Calls.{listCall};
 ghost use Rattle.movelog_theory.specs.Calls.{writeCall, readCall};
 ghost use Rattle.movelog.specs.Enums.{readingAs};
-ghost use Rattle.runs_theory.specs.Runs.{walkMovesCall, diskMovesCall};
+ghost use Rattle.runs_theory.specs.Runs.{walkMovesCall, resumedMovesCall, diskMovesCall};
 ghost use Rattle.capi.specs.Encoding.{encoded, Sent, runCode, movesMade, Ran};
 
 // Minus a refusal's number, as C has it in 64 bits.
@@ -149,7 +149,25 @@ pub extern "C" fn gray_moves(
     of_running(running)
 }
 
-// The same by the disk engine.
+// The same of a walk that is picked up at a word (a setting).
+#[no_mangle]
+pub extern "C" fn gray_resume_moves(
+    radices: &[u8],
+    capacity: usize,
+    word: &[u8],
+    t: u64,
+    out: &mut [u8],
+    made: &mut u64,
+) -> u64
+    ensures { λ r. ⌜ Ran (resumedMovesCall (now (radices .entry)) capacity (now (word .entry)) t (now (out .entry)))
+        r (now (out .exit)) (now (made .exit)) ⌝ }
+{
+    let running = runs::resumed_moves(radices, capacity, word, t, out);
+    *made = moves_of(running);
+    of_running(running)
+}
+
+// The same of a fresh game by the disk engine.
 #[no_mangle]
 pub extern "C" fn gray_towers(radices: &[u8], t: u64, out: &mut [u8], made: &mut u64) -> u64
     ensures { λ r. ⌜ Ran (diskMovesCall (now (radices .entry)) t (now (out .entry))) r (now (out .exit)) (now (made .exit)) ⌝ }

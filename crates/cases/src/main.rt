@@ -11,6 +11,7 @@
 //     write RADICES, CAPACITY, MOVES, LENT    the log of the first moves
 //     read BYTES                              a log's number of moves, and its records of moves
 //     walk open RADICES, CAPACITY             the buffered engine
+//     walk resume RADICES, CAPACITY, WORD     a survey picked up at a word
 //     walk step
 //     walk run MOVES, LENT                    a run of moves
 //     disks open RADICES                      the disk engine
@@ -18,8 +19,8 @@
 //     disks run MOVES, LENT
 //
 // Radices and words have digit n first. A writer is lent LENT bytes of 9, 256 at the most; they are printed as they are
-// afterwards. The states of both engines are kept from line to line, and at first no survey is open. A step and a run print the state
-// that they hand back. Between calls one field of a state can be changed, to make up another; such a line has no outcome:
+// afterwards. The states of both engines are kept from line to line, and at first no survey is open. A step, a run and a walk that is
+// picked up print the state that they hand back. Between calls one field of a state can be changed, to make up another; such a line has no outcome:
 //
 //     walk FIELD, VALUE                       n, moving, capacity, place, queued, steps, moves, ended
 //     walk FIELD NUMBER, VALUE                radix, number, digit, down, counter, entry
@@ -69,6 +70,8 @@ const WALK: u64 = 0x77616c6b;
 const DISKS: u64 = 0x6469736b73;
 
 const OPEN: u64 = 0x6f70656e;
+
+const RESUME: u64 = 0x726573756d65;
 
 const STEP: u64 = 0x73746570;
 
@@ -585,6 +588,27 @@ fn open_walk(walk: Walk, radices: &[u8], capacity: usize) -> Walk {
     opened.walk
 }
 
+// The capacity is the first of the numbers, and the word's digits are the others.
+fn resume_walk(walk: Walk, radices: &[u8], numbers: &[u64]) -> Walk {
+    if numbers.len() == 0 {
+        print_unread();
+        return walk;
+    }
+    let mut word = [0u8; 64];
+    let read = narrow(&numbers[1..], &mut word);
+    if !read.whole {
+        print_unread();
+        return walk;
+    }
+    let n = read.count;
+    let resumed = walk.resume(radices, numbers[0] as usize, &word[..n]);
+    let answer = resumed.answer;
+    let next = resumed.walk;
+    print_opening(answer);
+    print_walk(next);
+    next
+}
+
 // A walk with its number of steps or of moves changed.
 fn walk_counted(walk: Walk, name: u64, value: u64) -> Walk {
     let mut next = walk;
@@ -610,6 +634,9 @@ fn walk_has(name: u64, single: bool) -> bool {
 fn walk_call(walk: Walk, name: u64, bytes: &[u8], numbers: &[u64]) -> Walk {
     if name == STEP {
         return step_walk(walk);
+    }
+    if name == RESUME {
+        return resume_walk(walk, bytes, numbers);
     }
     if numbers.len() != 1 {
         print_unread();

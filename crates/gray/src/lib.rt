@@ -90,6 +90,18 @@ impl Counted {
     }
 }
 
+impl Ranked {
+    // The same for a rank.
+    pub fn number(self) -> u8
+        ensures { λ r. ⌜ r ≡ numberOf (rankedAs self) ⌝ }
+    {
+        match self {
+            Ranked::Rank(_) => 0,
+            Ranked::Refused(k) => k,
+        }
+    }
+}
+
 impl Checked {
     fn number(self) -> u8
         ensures { λ r. ⌜ r ≡ checkNumber self ⌝ }

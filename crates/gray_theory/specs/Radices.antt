@@ -1,6 +1,6 @@
 -- Radices: a survey's notch counts (document 01). Lists of the theory have digit 1 first, the fastest digit; lent bytes have
 -- digit n first.
-use Prim.Native.Nat.{ℕ, _*_, _^_}
+use Prim.Native.Nat.{ℕ, _*_, _/_, _%_, _^_}
 use mathlib.Core.Bool.{Bool, true, _&&_, _||_, not}
 use mathlib.Core.List.{List, [], _∷_, reverse}
 use lib.Dec.{leb, ltb, eqb}
@@ -18,6 +18,11 @@ bytes ds = reverse ds
 unfoldable pub size : List ℕ → ℕ
 size [] = 1
 size (m ∷ ms) = m * size ms
+
+-- the mixed-radix digits of a number, that of the fastest digit first
+unfoldable pub mixedDigits : List ℕ → ℕ → List ℕ
+mixedDigits [] e = []
+mixedDigits (m ∷ ms) e = e % m ∷ mixedDigits ms (e / m)
 
 -- every radix is at least k
 unfoldable pub allFrom : ℕ → List ℕ → Bool

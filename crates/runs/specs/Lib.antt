@@ -1,2 +1,3 @@
 -- What private functions answer.
 pub mod Enums
+pub mod Beginnings

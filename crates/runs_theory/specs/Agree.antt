@@ -1,6 +1,7 @@
 -- What both engines write is held to the list, and so to each other: two controllers, one on each, send their motors the same moves.
 use Prim.Native.Nat.{ℕ, zero, suc, _+_, _-_, _*_, _≤_, _<_}
 use native.Mathlib.Decide.{decLt}
+use native.Mathlib.Nat.{zero-add}
 use native.Mathlib.Numerals.{add-one}
 use native.Mathlib.Omega.{arith}
 use mathlib.Core.Path.{_≡_, refl, sym, ap, subst, _∙_}
@@ -12,7 +13,7 @@ use lib.ListN.{length, drop}
 use Rattle.gray_theory.specs.Answers.{Answer, given, refused}
 use Rattle.gray_theory.specs.MoveBytes.{moveByte}
 use Rattle.gray_theory.specs.Changes.{change}
-use Rattle.gray_theory.specs.Radices.{digits, size, allFrom}
+use Rattle.gray_theory.specs.Radices.{digits, size}
 use Rattle.gray_theory.specs.Sizes.{size-pos}
 use Rattle.gray_theory.specs.Locks.{unlocked}
 use Rattle.gray_theory.specs.Engines.{Event, moved, ended, Handed, after, answerOf}
@@ -30,18 +31,18 @@ use Rattle.towers_theory.specs.Walks.{disks-walk-the-list}
 use Rattle.runs_theory.specs.Runs.{Moves, openedRun, walkMovesCall, diskMovesCall, listMoves}
 
 -- ---- what is written
--- the first moves of the list: all that are asked for, where call d, which does not move, comes after them; else the d − 1 before it,
--- and what stopped them
-abbrev pub firstMoves : List ℕ → ℕ → ℕ → List ℕ
-firstMoves ms d t = cond (ltb t d) (listMoves ms 0 t) (listMoves ms 0 (d - 1))
+-- the moves of the list after the first r: all that are asked for, where call d, which does not move, comes after them; else the d − 1
+-- before it, and what stopped them
+abbrev pub firstMoves : List ℕ → ℕ → ℕ → ℕ → List ℕ
+firstMoves ms r d t = cond (ltb t d) (listMoves ms r t) (listMoves ms r (d - 1))
 
 abbrev pub firstStop : ℕ → Stop → ℕ → Stop
 firstStop d stop t = cond (ltb t d) nothing stop
 
 -- the call that writes them: 9 where the lent memory does not hold t bytes
-abbrev pub writesFirst : List ℕ → ℕ → Stop → ℕ → List ℕ → Moves
-writesFirst ms d stop t out =
-    let moves = firstMoves ms d t in
+abbrev pub writesFirst : List ℕ → ℕ → ℕ → Stop → ℕ → List ℕ → Moves
+writesFirst ms r d stop t out =
+    let moves = firstMoves ms r d t in
     cond (ltb (length out) t) (record { answer = refused 9; out = out })
     (record { answer = given (record { made = length moves; stop = firstStop d stop t }); out = moves ++ drop (length moves) out })
 
@@ -51,10 +52,10 @@ pub data Halts (a : Answer Event) (stop : Stop) : Type 0 where
   ends : a ≡ given ended → stop ≡ end → Halts a stop
   refuses : (k : ℕ) → a ≡ refused k → stop ≡ refusal k → Halts a stop
 
--- calls 1 to d − 1 name their changes, and call d does not move
-pub record StopsAt {S : Type 0} (call : S → Handed S Event) (ms : List ℕ) (s : S) (d : ℕ) (stop : Stop) : Type 0 where
+-- from rank r, calls 1 to d − 1 name their changes, and call d does not move
+pub record StopsAt {S : Type 0} (call : S → Handed S Event) (ms : List ℕ) (r : ℕ) (s : S) (d : ℕ) (stop : Stop) : Type 0 where
   pub from-one : 1 ≤ d
-  pub moves : (j : ℕ) → 1 ≤ j → j < d → answerOf call s j ≡ given (moved (change ms j))
+  pub moves : (j : ℕ) → 1 ≤ j → j < d → answerOf call s j ≡ given (moved (change ms (r + j)))
   pub halts : Halts (answerOf call s d) stop
 
 -- one move more at the end
@@ -68,40 +69,39 @@ more-moves ms j (suc t) =
     (more-moves ms (suc j) t
     ∙ ap (λ (i : ℕ). listMoves ms (suc j) t ++ (moveByte (change ms i .digit) (change ms i .down) ∷ [])) z)
 
-module _ {S : Type 0} (call : S → Handed S Event) (ms : List ℕ) (s : S) (d : ℕ) (stop : Stop) (run : StopsAt call ms s d stop) where
+module _ {S : Type 0} (call : S → Handed S Event) (ms : List ℕ) (r : ℕ) (s : S) (d : ℕ) (stop : Stop) (run : StopsAt call ms r s d stop) where
   -- the calls before call d write the list's moves
-  moved-so-far : (k : ℕ) → k < d → Moved call s k (listMoves ms 0 k)
+  moved-so-far : (k : ℕ) → k < d → Moved call s k (listMoves ms r k)
   unfolding listMoves
   moved-so-far zero h = moved-none call s
   moved-so-far (suc k) h =
       let here : suc k - 1 ≡ k = omega arith in
-      let next : 0 + suc k ≡ suc k = omega arith in
-      let says : call (after call s k) .answer ≡ given (moved (change ms (suc k)))
+      let says : call (after call s k) .answer ≡ given (moved (change ms (r + suc k)))
       = ap (λ (i : ℕ). call (after call s i) .answer) (sym here) ∙ run .moves (suc k) (omega arith) h in
       subst (λ (l : List ℕ). Moved call s (suc k) l)
-      (sym (more-moves ms 0 k ∙ ap (λ (i : ℕ). listMoves ms 0 k ++ (moveByte (change ms i .digit) (change ms i .down) ∷ [])) next))
-      (subst (λ (i : ℕ). Moved call s i (listMoves ms 0 k ++ (moveByte (change ms (suc k) .digit) (change ms (suc k) .down) ∷ [])))
+      (sym (more-moves ms r k))
+      (subst (λ (i : ℕ). Moved call s i (listMoves ms r k ++ (moveByte (change ms (r + suc k) .digit) (change ms (r + suc k) .down) ∷ [])))
       (add-one k)
-      (moved-more call s k (listMoves ms 0 k) (change ms (suc k)) (moveByte (change ms (suc k) .digit) (change ms (suc k) .down))
+      (moved-more call s k (listMoves ms r k) (change ms (r + suc k)) (moveByte (change ms (r + suc k) .digit) (change ms (r + suc k) .down))
       (moved-so-far k (omega arith))
       says
       refl))
 
   -- fewer calls than d: all of them move
-  pub run-all : (t : ℕ) → t < d → runFrom call s t ≡ record { state = after call s t; bytes = listMoves ms 0 t; stop = nothing }
-  run-all t h = all-made call s t t (listMoves ms 0 t) (moved-so-far t h) refl
+  pub run-all : (t : ℕ) → t < d → runFrom call s t ≡ record { state = after call s t; bytes = listMoves ms r t; stop = nothing }
+  run-all t h = all-made call s t t (listMoves ms r t) (moved-so-far t h) refl
 
   -- call d is reached
   run-halted : (t : ℕ)
       → d ≤ t
-      → runFrom call s t ≡ record { state = call (after call s (d - 1)) .state; bytes = listMoves ms 0 (d - 1); stop = stop }
+      → runFrom call s t ≡ record { state = call (after call s (d - 1)) .state; bytes = listMoves ms r (d - 1); stop = stop }
   run-halted t h = by (run .halts)
     where
       last : Ran S
-      last = record { state = call (after call s (d - 1)) .state; bytes = listMoves ms 0 (d - 1); stop = stop }
+      last = record { state = call (after call s (d - 1)) .state; bytes = listMoves ms r (d - 1); stop = stop }
 
       with : Stop → Ran S
-      with x = record { state = call (after call s (d - 1)) .state; bytes = listMoves ms 0 (d - 1); stop = x }
+      with x = record { state = call (after call s (d - 1)) .state; bytes = listMoves ms r (d - 1); stop = x }
 
       one : 1 ≤ d
       one = run .from-one
@@ -109,18 +109,18 @@ module _ {S : Type 0} (call : S → Handed S Event) (ms : List ℕ) (s : S) (d :
       by : Halts (answerOf call s d) stop → runFrom call s t ≡ last
       by (ends says is) =
           let o = one in
-          ends-there call s (d - 1) t (listMoves ms 0 (d - 1)) (moved-so-far (d - 1) (omega arith)) (omega arith) says
+          ends-there call s (d - 1) t (listMoves ms r (d - 1)) (moved-so-far (d - 1) (omega arith)) (omega arith) says
           ∙ ap with (sym is)
       by (refuses k says is) =
           let o = one in
-          refused-there call s (d - 1) t (listMoves ms 0 (d - 1)) (moved-so-far (d - 1) (omega arith)) (omega arith) k says
+          refused-there call s (d - 1) t (listMoves ms r (d - 1)) (moved-so-far (d - 1) (omega arith)) (omega arith) k says
           ∙ ap with (sym is)
 
   -- what an opening and the run after it write
-  writes-first : (inRange : S → Bool)
+  pub writes-first : (inRange : S → Bool)
       → inRange s ≡ true
       → (t : ℕ) (out : List ℕ)
-      → openedRun (given tt) (runWith inRange call s t out) out ≡ writesFirst ms d stop t out
+      → openedRun (given tt) (runWith inRange call s t out) out ≡ writesFirst ms r d stop t out
   unfolding runWith
   writes-first inRange ranged t out =
       elim (decLt (length out) t) [
@@ -135,6 +135,10 @@ module _ {S : Type 0} (call : S → Handed S Event) (ms : List ℕ) (s : S) (d :
       ]
 
 -- ---- the buffered engine
+-- from the start
+from-start : (ms : List ℕ) (j : ℕ) → _≡_ {A = Answer Event} (given (moved (change ms j))) (given (moved (change ms (0 + j))))
+from-start ms j = ap (λ (i : ℕ). given (moved (change ms i))) (sym (zero-add j))
+
 module _ (radices : List ℕ) (c : ℕ) (accepted : ahead.openOf ahead.closedWalk radices c .answer ≡ given tt) where
   abbrev ms : List ℕ
   ms = digits radices
@@ -142,30 +146,30 @@ module _ (radices : List ℕ) (c : ℕ) (accepted : ahead.openOf ahead.closedWal
   abbrev walk : walks.Walk
   walk = ahead.openOf ahead.closedWalk radices c .state
 
-  walk-writes : (d : ℕ) (stop : Stop) → StopsAt ahead.stepOf ms walk d stop → (t : ℕ) (out : List ℕ)
-      → walkMovesCall radices c t out ≡ writesFirst ms d stop t out
+  walk-writes : (d : ℕ) (stop : Stop) → StopsAt ahead.stepOf ms 0 walk d stop → (t : ℕ) (out : List ℕ)
+      → walkMovesCall radices c t out ≡ writesFirst ms 0 d stop t out
   unfolding walkMovesCall after
   walk-writes d stop run t out =
       ap (λ (a : Answer Unit). openedRun a (ahead.runOf walk t out) out) accepted
-      ∙ writes-first ahead.stepOf ms walk d stop run walks.inRange
+      ∙ writes-first ahead.stepOf ms 0 walk d stop run walks.inRange
       (fresh-walks-stay-in-range ahead.closedWalk radices c accepted .in-range 0)
       t
       out
 
   -- with half of the moving digits' number of places, rounded up, the run ends at call N
-  ends-at-N : length (unlocked ms) ≤ 2 * c → StopsAt ahead.stepOf ms walk (size ms) end
+  ends-at-N : length (unlocked ms) ≤ 2 * c → StopsAt ahead.stepOf ms 0 walk (size ms) end
   ends-at-N places =
       let walks = fresh-walks-work-ahead ahead.closedWalk radices c accepted .never-dry places in
       record {
         from-one = size-pos ms (ahead-opens.opens-exactly ahead.closedWalk radices c .0 accepted .survey .one);
-        moves = λ j a b. walks .moves j a b .answers;
+        moves = λ j a b. walks .moves j a b .answers ∙ from-start ms j;
         halts = ends (walks .end (size ms) (omega arith)) refl;
       }
 
   -- With half of n places, rounded up, the buffered engine writes the list's moves 1 to N − 1, or as many of them as are asked for;
   -- it says end exactly where more are asked for.
   pub walk-moves-are-the-lists : length (unlocked ms) ≤ 2 * c → (t : ℕ) (out : List ℕ)
-      → walkMovesCall radices c t out ≡ writesFirst ms (size ms) end t out
+      → walkMovesCall radices c t out ≡ writesFirst ms 0 (size ms) end t out
   walk-moves-are-the-lists places = walk-writes (size ms) end (ends-at-N places)
 
   -- With fewer places there is a d from 1 to N: it writes the list's moves 1 to d − 1, or as many of them as are asked for, and where
@@ -174,7 +178,7 @@ module _ (radices : List ℕ) (c : ℕ) (accepted : ahead.openOf ahead.closedWal
       → (d : ℕ)
       × (1 ≤ d)
       × (d ≤ size ms)
-      × ((t : ℕ) (out : List ℕ) → walkMovesCall radices c t out ≡ writesFirst ms d (refusal 10) t out)
+      × ((t : ℕ) (out : List ℕ) → walkMovesCall radices c t out ≡ writesFirst ms 0 d (refusal 10) t out)
   walk-moves-run-dry few =
       let (d, dries) = fresh-walks-work-ahead ahead.closedWalk radices c accepted .dry-within-N few in (
         d,
@@ -183,7 +187,7 @@ module _ (radices : List ℕ) (c : ℕ) (accepted : ahead.openOf ahead.closedWal
         walk-writes d (refusal 10)
             (record {
               from-one = dries .from-one;
-              moves = λ j x y. dries .moves j x y .answers;
+              moves = λ j x y. dries .moves j x y .answers ∙ from-start ms j;
               halts = refuses 10 (dries .dry d (omega arith)) refl;
             }),
       )
@@ -202,7 +206,7 @@ module _ (radices : List ℕ) (c : ℕ) (accepted : ahead.openOf ahead.closedWal
       run-in-range-is-made walks.inRange ahead.stepOf walk t out
       (fresh-walks-stay-in-range ahead.closedWalk radices c accepted .in-range 0)
       fits
-      ∙ ap (λ (r : Ran walks.Walk). runMakes r out) (run-all ahead.stepOf ms walk (size ms) end run t (omega arith))
+      ∙ ap (λ (r : Ran walks.Walk). runMakes r out) (run-all ahead.stepOf ms 0 walk (size ms) end run t (omega arith))
 
 -- Whatever its capacity, it writes moves of the list, from the first on without a gap.
 pub walk-moves-begin-the-list : (radices : List ℕ) (c : ℕ)
@@ -211,7 +215,7 @@ pub walk-moves-begin-the-list : (radices : List ℕ) (c : ℕ)
     × (stop : Stop)
     × (1 ≤ d)
     × (d ≤ size (digits radices))
-    × ((t : ℕ) (out : List ℕ) → walkMovesCall radices c t out ≡ writesFirst (digits radices) d stop t out)
+    × ((t : ℕ) (out : List ℕ) → walkMovesCall radices c t out ≡ writesFirst (digits radices) 0 d stop t out)
 walk-moves-begin-the-list radices c accepted =
     let n = size (digits radices) in
     elim (decLt (2 * c) (length (unlocked (digits radices)))) [
@@ -233,17 +237,17 @@ walk-moves-begin-the-list radices c accepted =
 pub disk-moves-are-the-lists : (radices : List ℕ)
     → towers.openOf towers.closedTowers radices .answer ≡ given tt
     → (t : ℕ) (out : List ℕ)
-    → diskMovesCall radices t out ≡ writesFirst (digits radices) (size (digits radices)) end t out
+    → diskMovesCall radices t out ≡ writesFirst (digits radices) 0 (size (digits radices)) end t out
 unfolding diskMovesCall after
 disk-moves-are-the-lists radices accepted t out =
     let ms = digits radices in
     let opened = towers.openOf towers.closedTowers radices in
     let walks = disks-walk-the-list towers.closedTowers radices accepted in
     ap (λ (a : Answer Unit). openedRun a (towers.runOf (opened .state) t out) out) accepted
-    ∙ writes-first towers.stepOf ms (opened .state) (size ms) end
+    ∙ writes-first towers.stepOf ms 0 (opened .state) (size ms) end
     (record {
       from-one = size-pos ms (towers-opens.opens-exactly towers.closedTowers radices .0 accepted .survey .one);
-      moves = λ j a b. walks .moves j a b .answers;
+      moves = λ j a b. walks .moves j a b .answers ∙ from-start ms j;
       halts = ends (walks .end (size ms) (omega arith) .answers) refl;
     })
     games.inRange

@@ -1,4 +1,5 @@
--- The move bytes of a fresh walk, by either engine: an opening and one run of moves (document 02, "A run of moves in one call").
+-- The move bytes of a fresh walk, by either engine, or of one that is picked up: an opening and one run of moves (document 02, "A run
+-- of moves in one call").
 use Prim.Native.Nat.{ℕ, zero, suc}
 use mathlib.Core.List.{List, [], _∷_}
 use Rattle.gray_theory.specs.Answers.{Answer, given, refused}
@@ -6,6 +7,7 @@ use Rattle.gray_theory.specs.MoveBytes.{moveByte}
 use Rattle.gray_theory.specs.Changes.{change}
 use Rattle.gray_theory.specs.RunCalls.{Outcome, Running}
 use Rattle.ahead_theory.specs.Calls as ahead
+use Rattle.ahead_theory.specs.Pickups as pickups
 use Rattle.towers_theory.specs.Calls as towers
 
 -- what such a call says, and leaves in the lent memory
@@ -23,6 +25,12 @@ openedRun (refused k) run out = record { answer = refused k; out = out }
 unfoldable pub walkMovesCall : List ℕ → ℕ → ℕ → List ℕ → Moves
 walkMovesCall radices c t out =
     let opened = ahead.openOf ahead.closedWalk radices c in
+    openedRun (opened .answer) (ahead.runOf (opened .state) t out) out
+
+-- a walk that is picked up at a word (a setting)
+unfoldable pub resumedMovesCall : List ℕ → ℕ → List ℕ → ℕ → List ℕ → Moves
+resumedMovesCall radices c word t out =
+    let opened = pickups.resumeOf ahead.closedWalk radices c word in
     openedRun (opened .answer) (ahead.runOf (opened .state) t out) out
 
 -- a fresh game by the disk engine

@@ -1,7 +1,8 @@
 //! The proved library against plain Rust (src/plain) for the same jobs, in one process: `bench [--quick] [TABLE ..]`. It prints
 //! Markdown, for docs/BENCHMARKS.md, which says how to read it.
 //!
-//! Of the engines a run of moves is measured, from the start. The columns of their tables:
+//! Of the engines a run of moves is measured, from the start, and one move from a setting in mid-list. The columns of their
+//! tables:
 //!
 //! - ours: the library's call, which tests what it is given, opens a walk, makes the run and lets the walk go.
 //! - Algorithm H: Knuth's loopless algorithm in C at -O3, step by step as he describes it (The Art of Computer Programming,
@@ -118,6 +119,13 @@ fn disk_surveys() -> Vec<Survey> {
 /// For short runs.
 fn two_surveys() -> Vec<Survey> {
     vec![Survey::equal(6, 10), Survey::equal(48, 2)]
+}
+
+/// For walks that are picked up, one of them with locked sluices.
+fn resumed_surveys() -> Vec<Survey> {
+    let equal = [(6, 10), (20, 3), (48, 2)];
+    let locked = Survey::locked(44, 2, 4);
+    equal.map(|(n, m)| Survey::equal(n, m)).into_iter().chain([locked]).collect()
 }
 
 /// In what a job is counted, and how a time of so many ns for one is shown.
@@ -463,6 +471,42 @@ fn short_rows(bench: &Bench, survey: &Survey) {
     }
 }
 
+/// Settings of the list's middle half, one after another.
+fn settings_in_mid_list(survey: &Survey) -> Vec<u8> {
+    let (n, size) = (survey.radices.len(), survey.size());
+    let mut settings = vec![0; CALLS * n];
+    for (setting, rank) in settings.chunks_exact_mut(n).zip(survey.ranks(CALLS, size / 2)) {
+        words::word(&survey.radices, size / 4 + rank, setting).expect("a rank of the list");
+    }
+    settings
+}
+
+/// One move from each of these settings: a call picks the walk up, which is most of it.
+fn resumed_row(bench: &Bench, survey: &Survey) {
+    fn batch(resume: impl Fn(&[u8], usize, &[u8], u64, &mut [u8]) -> Run, survey: &Survey, settings: &[u8], out: &mut [u8]) {
+        let (radices, capacity) = (&survey.radices, survey.capacity());
+        for setting in settings.chunks_exact(radices.len()) {
+            let _ = black_box(resume(
+                black_box(radices),
+                black_box(capacity),
+                black_box(setting),
+                black_box(1),
+                black_box(&mut *out),
+            ));
+        }
+    }
+    let (radices, capacity) = (&survey.radices, survey.capacity());
+    let settings = settings_in_mid_list(survey);
+    for setting in settings.chunks_exact(radices.len()) {
+        let ours: Writer = &|out| made(capi::resume_moves(radices, capacity, setting, 1, out));
+        alike(2, &[ours, &|out| made(walk::resumed_run(radices, capacity, setting, 1, out))]);
+    }
+    let (mut a, mut b) = ([0], [0]);
+    let ours = &mut || batch(capi::resume_moves, survey, &settings, &mut a);
+    let plain = &mut || batch(walk::resumed_run, survey, &settings, &mut b);
+    bench.row(survey, &NS_A_CALL, CALLS as u64, &mut [ours, plain]);
+}
+
 fn disk_row(bench: &Bench, survey: &Survey) {
     let (radices, t) = (black_box(&survey.radices[..]), bench.walked);
     let sides: [Writer; 2] = [&|out| made(capi::towers(radices, t as u64, out)), &|out| {
@@ -512,7 +556,7 @@ const PLAIN: &[&str] = &["plain Rust"];
 const RUNS: &[&str] = &["Algorithm H", "tuned Algorithm H", "plain Rust"];
 const SHORT_ONES: &[&str] = &["Algorithm H", "plain Rust"];
 
-const TABLES: [Table; 9] = [
+const TABLES: [Table; 10] = [
     Table {
         name: "size",
         unit: NS_A_CALL,
@@ -568,6 +612,13 @@ const TABLES: [Table; 9] = [
         others: SHORT_ONES,
         surveys: two_surveys,
         rows: short_rows,
+    },
+    Table {
+        name: "resume",
+        unit: NS_A_CALL,
+        others: PLAIN,
+        surveys: resumed_surveys,
+        rows: resumed_row,
     },
     Table {
         name: "towers",

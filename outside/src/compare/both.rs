@@ -107,18 +107,20 @@ pub fn list(g: &mut Group, counts: &[u8], from: u64, count: u64, room: usize) ->
     list_is(g, counts, from, count, room, ours.as_deref().map_err(|&k| k))
 }
 
-/// The engine of a run, with its capacity where it has one.
+/// The engine of a run, with its capacity where it has one, and with the setting where it does not begin at the start.
 #[derive(Clone, Copy, Debug)]
-pub enum Engine {
+pub enum Engine<'a> {
     Buffered(usize),
+    PickedUp(usize, &'a [u8]),
     Disks,
 }
 
-impl Engine {
-    /// Our run of at most t moves from the start.
+impl Engine<'_> {
+    /// Our run of at most t moves from the start, or from the setting.
     pub fn run(self, counts: &[u8], t: u64, room: usize) -> Ran {
         match self {
             Engine::Buffered(capacity) => buffered::moves(counts, capacity, t, room),
+            Engine::PickedUp(capacity, setting) => buffered::resumed_moves(counts, capacity, setting, t, room),
             Engine::Disks => disks::moves(counts, t, room),
         }
     }
@@ -126,6 +128,7 @@ impl Engine {
     fn theirs(self, counts: &[u8], t: u64, out: &mut [u8]) -> Run {
         match self {
             Engine::Buffered(capacity) => capi::moves(counts, capacity, t, out),
+            Engine::PickedUp(capacity, setting) => capi::resume_moves(counts, capacity, setting, t, out),
             Engine::Disks => capi::towers(counts, t, out),
         }
     }

@@ -22,7 +22,7 @@ pub fn compare(g: &mut Group, chance: &mut Chance) {
 }
 
 /// Any bytes, or bytes that are nearly a survey: too long, a count of 0 among them, or N over 2^62.
-fn survey_bytes(chance: &mut Chance) -> Vec<u8> {
+pub fn survey_bytes(chance: &mut Chance) -> Vec<u8> {
     let length = chance.between(0, 60);
     match chance.below(10) {
         0 => chance.bytes(length, 0, 255),
@@ -74,7 +74,7 @@ fn every_call(g: &mut Group, chance: &mut Chance, counts: &[u8]) {
 }
 
 /// A length: the one that is needed, or one byte off, or any.
-fn room(chance: &mut Chance, needed: usize) -> usize {
+pub fn room(chance: &mut Chance, needed: usize) -> usize {
     let any = chance.between(0, 2 * needed + 3);
     chance.pick(&[needed, needed.saturating_sub(1), needed + 1, any])
 }
@@ -86,7 +86,7 @@ fn near(chance: &mut Chance, size: u64) -> u64 {
 }
 
 /// Any bytes, or a setting with at most one fault.
-fn setting_bytes(chance: &mut Chance, counts: &[u8]) -> Vec<u8> {
+pub fn setting_bytes(chance: &mut Chance, counts: &[u8]) -> Vec<u8> {
     let mut setting: Vec<u8> = counts.iter().map(|&m| chance.byte(0, m.saturating_sub(1))).collect();
     let place = chance.between(0, counts.len());
     match chance.below(6) {

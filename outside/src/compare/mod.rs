@@ -10,6 +10,8 @@ mod faults;
 mod figure;
 mod large;
 mod locked;
+mod pickup_cases;
+mod pickups;
 mod process;
 mod program;
 mod ranges;
@@ -49,15 +51,17 @@ impl Group {
 
 type Compare = fn(&mut Group, &mut Chance);
 
-const GROUPS: [(&str, Compare); 9] = [
+const GROUPS: [(&str, Compare); 11] = [
     ("lists of figure 1", figure::compare),
     ("small surveys", small::compare),
     ("large surveys", large::compare),
     ("long runs", runs::compare),
+    ("walks picked up at a setting", pickups::compare),
     ("refusals at their bounds", bounds::compare),
     ("random and damaged bytes", damage::compare),
     ("states of both engines", cases::compare),
     ("runs of both engines' states", run_cases::compare),
+    ("states of walks picked up", pickup_cases::compare),
     ("the program walk", program::compare),
 ];
 

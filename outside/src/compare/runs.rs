@@ -69,14 +69,14 @@ pub fn enough(counts: &[u8]) -> usize {
 /// Our longest run of a survey, from which every shorter one follows: it makes the first of these moves, or all of them and
 /// stops as this does.
 pub struct Longest<'a> {
-    engine: Engine,
+    engine: Engine<'a>,
     counts: &'a [u8],
     pub outcome: Run,
     pub moves: Vec<u8>,
 }
 
 impl<'a> Longest<'a> {
-    pub fn of(engine: Engine, counts: &'a [u8], t: u64) -> Longest<'a> {
+    pub fn of(engine: Engine<'a>, counts: &'a [u8], t: u64) -> Longest<'a> {
         let (outcome, moves) = engine.run(counts, t, t as usize);
         Longest {
             engine,

@@ -92,6 +92,21 @@ impl Script {
         }
     }
 
+    /// A walk picked up, with its state. One that is refused leaves the state as it was, so that what led to it belongs to the
+    /// case.
+    pub fn resume_walk(&mut self, counts: &[u8], capacity: usize, setting: &[u8]) {
+        let line = in_order(&format!("walk resume {}, {capacity},", joined(counts)), setting);
+        let outcome = match Walk::resume(counts, capacity, setting) {
+            Ok(walk) => {
+                self.case = self.input.len();
+                self.walk = walk;
+                "open".into()
+            }
+            Err(number) => format!("refused {number}"),
+        };
+        self.answered(&line, &format!("{outcome}; {}", walk_text(&self.walk)));
+    }
+
     pub fn open_disks(&mut self, counts: &[u8]) {
         self.case = self.input.len();
         let line = format!("disks open {}", joined(counts));

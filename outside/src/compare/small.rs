@@ -14,20 +14,20 @@ const CAPACITIES: std::ops::RangeInclusive<usize> = 1..=32;
 const MOST_ANEW: u64 = 40;
 
 /// A survey with its list and the move bytes of all its changes.
-struct Known {
-    counts: Vec<u8>,
-    list: Vec<Vec<u8>>,
-    moves: Vec<u8>,
+pub struct Known {
+    pub counts: Vec<u8>,
+    pub list: Vec<Vec<u8>>,
+    pub moves: Vec<u8>,
 }
 
 impl Known {
-    fn of(counts: Vec<u8>) -> Known {
+    pub fn of(counts: Vec<u8>) -> Known {
         let list = survey::list(&counts);
         let moves = survey::moves_along(&list);
         Known { counts, list, moves }
     }
 
-    fn size(&self) -> u64 {
+    pub fn size(&self) -> u64 {
         self.list.len() as u64
     }
 
@@ -54,7 +54,7 @@ pub fn compare(g: &mut Group, chance: &mut Chance) {
     }
 }
 
-fn surveys() -> Vec<Vec<u8>> {
+pub fn surveys() -> Vec<Vec<u8>> {
     let mut all = vec![];
     let mut shorter = vec![vec![]];
     for _ in 0..MOST_SLUICES {

@@ -4,7 +4,7 @@ use super::{algorithm_h, disks, list, log, walk, words};
 use crate::capi::{self, Answer};
 use crate::chance::Chance;
 use crate::run::Run;
-use crate::second::survey;
+use crate::second::{buffered, survey};
 use std::fmt::Debug;
 
 /// Surveys short enough to be walked, some of them faulty, half of them with locked digits, some with no others.
@@ -120,6 +120,58 @@ fn runs_go_on_where_the_last_one_stopped() {
             (Run::Made(_), Run::Made(_)) | (Run::Ended(_), Run::Ended(_)) => (),
             (Run::Stopped(_, 10), Run::Stopped(_, 10)) => (),
             other => panic!("{radices:?}: {other:?}"),
+        }
+    }
+}
+
+/// A word of the survey, near its end or anywhere; now and then one that is too long, too short, or has too high a digit.
+fn some_word(chance: &mut Chance, radices: &[u8]) -> Vec<u8> {
+    let mut word = vec![0; radices.len()];
+    if let Ok(size) = survey::size(radices) {
+        let (late, any) = (size - 1 - chance.below(size.min(300)), chance.below(size));
+        word = survey::setting(radices, chance.pick(&[late, any]));
+    }
+    let place = chance.between(0, radices.len());
+    match chance.below(12) {
+        0 => word.insert(place, 0),
+        1 if place < word.len() => _ = word.remove(place),
+        2 if place < word.len() => word[place] = chance.pick(&[radices[place], 255]),
+        _ => (),
+    }
+    word
+}
+
+/// Runs from a word come out as the library's and the second program's do.
+#[test]
+fn resumed_runs_are_alike() {
+    let mut chance = Chance::new(9);
+    for _ in 0..4_000 {
+        let radices = survey(&mut chance);
+        let word = some_word(&mut chance, &radices);
+        let t = chance.between(0, 400);
+        let room = (t + chance.pick(&[0, 0, 1, 2, 9])).saturating_sub(chance.between(0, 1));
+        let capacity = enough(&radices) + chance.between(0, 2) - 1 + 40 * usize::from(chance.once_in(20));
+        let plain = |out: &mut [u8]| walk::resumed_run(&radices, capacity, &word, t as u64, out);
+        alike(
+            room,
+            |out| capi::resume_moves(&radices, capacity, &word, t as u64, out),
+            plain,
+        );
+        let (outcome, bytes) = buffered::resumed_moves(&radices, capacity, &word, t as u64, room);
+        let mut out = vec![0xaa; room];
+        assert_eq!((plain(&mut out), &out[..bytes.len()]), (outcome, &bytes[..]), "{radices:?}");
+    }
+}
+
+/// From every word of 2 3: its moves are those of the whole run that are left.
+#[test]
+fn resumed_runs_end_the_list() {
+    let moves = [1, 1, 2, 0x81, 0x81];
+    for (rank, word) in [[0, 0], [0, 1], [0, 2], [1, 2], [1, 1], [1, 0]].iter().enumerate() {
+        for capacity in [1, 2, 32] {
+            let mut out = [0; 6];
+            let run = walk::resumed_run(&[2, 3], capacity, word, 6, &mut out);
+            assert_eq!((run, &out[..5 - rank]), (Run::Ended(5 - rank as u64), &moves[rank..]));
         }
     }
 }

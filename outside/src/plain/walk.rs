@@ -1,6 +1,6 @@
 //! The buffered engine on a state by reference: runs of moves, each of which tests the range rule once.
 use super::engine::{all, put_moves, room_for, Digits, Step, INDICES};
-use super::words::MOST_DIGITS;
+use super::words::{reflected, MOST_DIGITS};
 use crate::run::Run;
 
 const MOST_ENTRIES: usize = 32;
@@ -119,6 +119,27 @@ impl Core {
         self.place = 0;
     }
 
+    /// The word, as long as the radices, with the rank, its digits in the counter and the directions, all from one pass with
+    /// the slowest digit first. A digit at the end of its sweep has turned already. Whether each digit is below its radix.
+    #[inline]
+    fn put_word(&mut self, word: &[u8]) -> bool {
+        let digits = &mut self.digits;
+        let mut slower = 0;
+        for (i, &a) in (0..digits.n).rev().zip(word) {
+            let m = digits.radices[i];
+            if a >= m {
+                return false;
+            }
+            let b = reflected(m, slower, a);
+            digits.word[i] = a;
+            digits.downs[i] = (m > 1) & ((slower % 2 == 1) != (b == m - 1));
+            self.counter[i] = b;
+            slower = slower * u64::from(m) + u64::from(b);
+        }
+        self.moves = slower;
+        true
+    }
+
     /// The carries since a place, undone.
     fn undo(&mut self, place: usize) {
         self.steps -= (self.place - place) as u64;
@@ -182,6 +203,27 @@ impl Walk {
         })
     }
 
+    /// Picked up at a word: refusals 2 to 5 and 8.
+    pub fn resume(radices: &[u8], capacity: usize, word: &[u8]) -> Result<Walk, u8> {
+        let mut walk = Walk::open(radices, capacity)?;
+        if word.len() != radices.len() || !walk.core.put_word(word) {
+            return Err(8);
+        }
+        walk.fill();
+        Ok(walk)
+    }
+
+    /// Work steps until the queue is full or the end is in it; they do not count.
+    #[inline]
+    fn fill(&mut self) {
+        let mut ring = Ring::of(&self.queue);
+        while ring.len() < self.core.capacity && !self.core.last {
+            self.core.work(&mut ring);
+        }
+        self.queue = ring.shifted();
+        self.core.steps = 0;
+    }
+
     /// The range rule, and where it holds N.
     #[inline]
     fn size_in_range(&self) -> Option<u64> {
@@ -240,6 +282,15 @@ impl Walk {
 #[inline(never)]
 pub fn run(radices: &[u8], capacity: usize, t: u64, out: &mut [u8]) -> Run {
     match Walk::open(radices, capacity) {
+        Ok(mut walk) => walk.run(t, out),
+        Err(number) => Run::Refused(number),
+    }
+}
+
+/// A run from a word: refusals 2 to 5, 8 and 9, and 10 as above.
+#[inline(never)]
+pub fn resumed_run(radices: &[u8], capacity: usize, word: &[u8], t: u64, out: &mut [u8]) -> Run {
+    match Walk::resume(radices, capacity, word) {
         Ok(mut walk) => walk.run(t, out),
         Err(number) => Run::Refused(number),
     }

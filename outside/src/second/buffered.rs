@@ -1,4 +1,4 @@
-//! The buffered engine: document 01, "The buffered engine", document 02, requests 3 and 4, and document 004, section 10.
+//! The buffered engine: document 01, "The buffered engine", document 02, requests 3, 4 and 6, and document 004, section 10.
 //!
 //! Work steps, counter and queue run over the moving sluices alone: place i is the i-th of them, which is sluice i only if none
 //! before it is locked.
@@ -56,6 +56,39 @@ impl Walk {
         survey::size(counts)?;
         check_capacity(capacity)?;
         Ok(Walk::fresh(Sluices::fresh(counts), capacity))
+    }
+
+    /// A walk picked up at a setting: j is its rank, and the buffer is filled ahead.
+    pub fn resume(counts: &[u8], capacity: usize, setting: &[u8]) -> Result<Walk, Refusal> {
+        let mut walk = Walk::open(counts, capacity)?;
+        walk.moves = survey::rank(counts, setting)?;
+        walk.sluices = Sluices::at(counts, setting, walk.moves);
+        walk.count_to(walk.moves);
+        walk.fill();
+        Ok(walk)
+    }
+
+    /// The counter holds the mixed-radix digits of a rank, which is below N: so its last place stays 0.
+    fn count_to(&mut self, rank: u64) {
+        let mut left = rank;
+        for i in 1..self.last_place() {
+            let m = u64::from(self.count(i));
+            self.counter[i - 1] = (left % m) as u8;
+            left /= m;
+        }
+    }
+
+    /// Work steps until the queue is full or holds the end entry. They are not counted.
+    fn fill(&mut self) {
+        while self.queued < self.capacity && !self.holds_end() {
+            self.work();
+        }
+        self.steps = 0;
+    }
+
+    fn holds_end(&self) -> bool {
+        let end = self.last_place() as u8;
+        self.entry[..self.queued].contains(&end)
     }
 
     /// The counter's last place, one more than the moving sluices. Its entry is the end.
@@ -152,5 +185,10 @@ impl Walk {
 
 /// A run of a fresh walk.
 pub fn moves(counts: &[u8], capacity: usize, t: u64, room: usize) -> Ran {
-    run::from_start(Walk::open(counts, capacity), |walk| walk.run(t, room))
+    run::of_opened(Walk::open(counts, capacity), |walk| walk.run(t, room))
+}
+
+/// A run of a walk picked up at a setting.
+pub fn resumed_moves(counts: &[u8], capacity: usize, setting: &[u8], t: u64, room: usize) -> Ran {
+    run::of_opened(Walk::resume(counts, capacity, setting), |walk| walk.run(t, room))
 }

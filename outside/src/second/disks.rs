@@ -127,5 +127,5 @@ impl Disks {
 
 /// A run of a fresh walk.
 pub fn moves(counts: &[u8], t: u64, room: usize) -> Ran {
-    run::from_start(Disks::open(counts), |disks| disks.run(t, room))
+    run::of_opened(Disks::open(counts), |disks| disks.run(t, room))
 }

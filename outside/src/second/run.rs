@@ -29,8 +29,8 @@ pub fn single_calls(in_range: bool, mut step: impl FnMut() -> Answer, t: u64, ro
     (Run::Made(t), bytes)
 }
 
-/// A run from the start, unless the opening is refused.
-pub fn from_start<State>(opened: Result<State, Refusal>, run: impl FnOnce(&mut State) -> Ran) -> Ran {
+/// A run of a state that was just opened or picked up, unless that was refused.
+pub fn of_opened<State>(opened: Result<State, Refusal>, run: impl FnOnce(&mut State) -> Ran) -> Ran {
     match opened {
         Ok(mut state) => run(&mut state),
         Err(number) => refused(number),

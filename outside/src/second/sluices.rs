@@ -37,6 +37,21 @@ impl Sluices {
         sluices
     }
 
+    /// At the setting of a rank, with the directions that the walk from the start has there. That walk has made as many changes
+    /// as the rank says. Change j is a sluice's where P divides j and Q does not: P is the product of the counts below it, and
+    /// Q has its own besides.
+    pub fn at(counts: &[u8], setting: &[u8], rank: u64) -> Sluices {
+        let mut sluices = Sluices::fresh(counts);
+        let mut p = 1;
+        for (x, &a) in setting.iter().rev().enumerate() {
+            let m = sluices.radix[x];
+            let q = p * u64::from(m);
+            (sluices.digit[x], sluices.down[x]) = (a, goes_down(m, rank / p - rank / q));
+            p = q;
+        }
+        sluices
+    }
+
     /// The moving sluices are these; places past them stay as they are.
     pub fn set_moving(&mut self, numbers: &[u8]) {
         self.moving = numbers.len();
@@ -92,4 +107,10 @@ impl Sluices {
         }
         Change { sluice: k as u8, down }
     }
+}
+
+/// Whether a sluice goes down after so many moves of its own: it begins upward, and every m - 1 of them bring it to an end,
+/// where it turns. A locked one has none and stays upward.
+fn goes_down(m: u8, moves: u64) -> bool {
+    m > 1 && moves / u64::from(m - 1) % 2 == 1
 }

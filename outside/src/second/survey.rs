@@ -132,5 +132,10 @@ pub fn change(counts: &[u8], j: u64) -> Change {
 
 /// The move bytes of changes 1 to t.
 pub fn move_bytes(counts: &[u8], t: u64) -> Vec<u8> {
-    (1..=t).map(|j| change(counts, j).byte()).collect()
+    move_bytes_from(counts, 0, t)
+}
+
+/// The move bytes of the t changes after the setting of a rank.
+pub fn move_bytes_from(counts: &[u8], rank: u64, t: u64) -> Vec<u8> {
+    (rank + 1..=rank + t).map(|j| change(counts, j).byte()).collect()
 }

@@ -1,4 +1,4 @@
-//! Document 01's cases, and those of document 02, requests 3 and 4.
+//! Document 01's cases, and those of document 02, requests 3, 4 and 6.
 use super::buffered::{self, Walk};
 use super::disks::Disks;
 use super::sluices::Sluices;
@@ -270,6 +270,181 @@ fn runs_to_the_end() {
     assert_eq!(after_run(fresh, 9, 9), (Run::Ended(5), ended.clone()));
     for (t, room, outcome) in [(0, 0, Run::Made(0)), (4, 4, Run::Ended(0)), (4, 3, Run::Refused(9))] {
         assert_eq!(after_run(ended.clone(), t, room), (outcome, ended.clone()));
+    }
+}
+
+/// Queue and counter of a picked-up walk, the counter's first place first.
+type Ahead<'a> = (&'a [u8], [u8; 3]);
+
+/// Every setting of 2 3, worked by hand: queue and counter after the filling, for three capacities.
+#[test]
+fn picked_up_states() {
+    let states: [(&str, u64, [bool; 2], [Ahead; 3]); 6] = [
+        (
+            "00",
+            0,
+            [false, false],
+            [(&[1], [1, 0, 0]), (&[1, 1], [2, 0, 0]), (&[1, 1, 2, 1, 1, 3], [0, 0, 1])],
+        ),
+        (
+            "01",
+            1,
+            [false, false],
+            [(&[1], [2, 0, 0]), (&[1, 2], [0, 1, 0]), (&[1, 2, 1, 1, 3], [0, 0, 1])],
+        ),
+        (
+            "02",
+            2,
+            [true, false],
+            [(&[2], [0, 1, 0]), (&[2, 1], [1, 1, 0]), (&[2, 1, 1, 3], [0, 0, 1])],
+        ),
+        (
+            "12",
+            3,
+            [true, true],
+            [(&[1], [1, 1, 0]), (&[1, 1], [2, 1, 0]), (&[1, 1, 3], [0, 0, 1])],
+        ),
+        (
+            "11",
+            4,
+            [true, true],
+            [(&[1], [2, 1, 0]), (&[1, 3], [0, 0, 1]), (&[1, 3], [0, 0, 1])],
+        ),
+        (
+            "10",
+            5,
+            [false, true],
+            [(&[3], [0, 0, 1]), (&[3], [0, 0, 1]), (&[3], [0, 0, 1])],
+        ),
+    ];
+    for (setting, rank, down, filled) in states {
+        for (capacity, (queue, counter)) in [1, 2, 32].into_iter().zip(filled) {
+            let walk = Walk::resume(&[2, 3], capacity, &digits(setting)).unwrap();
+            assert_eq!(
+                (walk.capacity, &walk.entry[..walk.queued], &walk.counter[..3]),
+                (capacity, queue, &counter[..])
+            );
+            assert_eq!((walk.place, walk.steps, walk.moves, walk.ended), (1, 0, rank, false));
+            let [first, second] = [walk.sluices.digit[0], walk.sluices.digit[1]];
+            assert_eq!((vec![second, first], &walk.sluices.down[..2]), (digits(setting), &down[..]));
+        }
+    }
+}
+
+/// At every setting sluices and number of moves are those of the walk from the start, and so is every later answer.
+#[test]
+fn picked_up_walks_go_on() {
+    for counts in [
+        &[2, 3][..],
+        &[3, 2, 4],
+        &[2, 1, 3],
+        &[1, 2, 2, 1, 5],
+        &[2; 5],
+        &[5, 3],
+        &[4],
+        &[1, 1],
+        &[255, 2],
+    ] {
+        let enough = moving(counts).len().div_ceil(2).max(1);
+        for capacity in [enough, enough + 1, 32] {
+            let mut start = Walk::open(counts, capacity).unwrap();
+            for word in list(counts) {
+                let picked_up = Walk::resume(counts, capacity, &word).unwrap();
+                assert_eq!((&picked_up.sluices, picked_up.moves), (&start.sluices, start.moves));
+                go_on_alike(start.clone(), picked_up);
+                start.step();
+            }
+            assert!(start.ended);
+        }
+    }
+}
+
+/// Up to the end, and one call past it.
+fn go_on_alike(mut start: Walk, mut picked_up: Walk) {
+    while !start.ended {
+        assert_eq!((picked_up.step(), &picked_up.sluices), (start.step(), &start.sluices));
+    }
+    let ended = picked_up.clone();
+    assert_eq!((picked_up.step(), picked_up), (Answer::End, ended));
+}
+
+/// At the last setting the next call is the end; with all locked the only setting is the last.
+#[test]
+fn picked_up_at_the_last_setting() {
+    for (counts, last) in [
+        (&[2, 3][..], &[1, 0][..]),
+        (&[3, 3], &[2, 2]),
+        (&[1, 2, 1], &[0, 1, 0]),
+        (&[1], &[0]),
+        (&[1; 48], &[0; 48]),
+    ] {
+        for capacity in [1, 2, 32] {
+            let mut walk = Walk::resume(counts, capacity, last).unwrap();
+            let before = (walk.sluices.clone(), walk.moves);
+            assert_eq!((walk.queued, walk.step()), (1, Answer::End));
+            assert_eq!((walk.sluices, walk.moves), before);
+            assert_eq!(buffered::resumed_moves(counts, capacity, last, 1, 1), (Run::Ended(0), vec![]));
+        }
+    }
+}
+
+/// One sluice of two notches: the filling makes both entries, so that with room for a third the work steps of the two calls
+/// come round to the counter's last place and are idle there. Without it they are idle in the first call.
+#[test]
+fn picked_up_steps_idle_at_the_last_place() {
+    for (capacity, steps) in [(2, [0, 2]), (3, [2, 2]), (32, [2, 2])] {
+        let mut walk = Walk::resume(&[2], capacity, &[0]).unwrap();
+        assert_eq!((walk.step(), walk.steps), (up(1), steps[0]));
+        assert_eq!((walk.step(), walk.steps), (Answer::End, steps[1]));
+        assert_eq!((walk.place, &walk.counter[..2]), (2, &[0, 1][..]));
+    }
+}
+
+/// Three two-notch sluices with too small a buffer: it runs dry before the end entry, which takes four steps, unless that is
+/// the first entry or the second.
+#[test]
+fn picked_up_walks_run_dry() {
+    let counts = [2; 3];
+    for (rank, word) in (0..).zip(list(&counts)) {
+        let moves = [1, 2, 0x81, 3, 1, 0x82, 0x81][rank as usize..].to_vec();
+        let ended = Run::Ended(7 - rank);
+        let small = if rank < 6 { Run::Stopped(7 - rank, 10) } else { ended };
+        assert_eq!(buffered::resumed_moves(&counts, 1, &word, 9, 9), (small, moves.clone()));
+        assert_eq!(buffered::resumed_moves(&counts, 2, &word, 9, 9), (ended, moves));
+    }
+}
+
+/// 2 to 5, then 8, then 9 of a run.
+#[test]
+fn refused_pick_ups() {
+    let over = [255; 9];
+    for (counts, capacity, setting, number) in [
+        (&[][..], 0, &[7][..], 2),
+        (&[2, 0], 0, &[7], 3),
+        (&over, 33, &[], 4),
+        (&[2, 3], 0, &[7], 5),
+        (&[2, 3], 33, &[1, 3], 5),
+        (&[2, 3], 1, &[], 8),
+        (&[2, 3], 1, &[1], 8),
+        (&[2, 3], 1, &[1, 2, 0], 8),
+        (&[2, 3], 1, &[1, 3], 8),
+        (&[2, 3], 1, &[2, 0], 8),
+        (&[2, 1], 1, &[0, 1], 8),
+    ] {
+        assert_eq!(Walk::resume(counts, capacity, setting).err(), Some(number));
+        assert_eq!(
+            buffered::resumed_moves(counts, capacity, setting, 1, 0),
+            (Run::Refused(number), vec![])
+        );
+    }
+    for (t, room, outcome) in [
+        (0, 0, Run::Made(0)),
+        (2, 2, Run::Made(2)),
+        (3, 3, Run::Ended(2)),
+        (3, 2, Run::Refused(9)),
+    ] {
+        let bytes = MOVES_OF_TWO[3..3 + outcome.moves() as usize].to_vec();
+        assert_eq!(buffered::resumed_moves(&[2, 3], 1, &[1, 2], t, room), (outcome, bytes));
     }
 }
 

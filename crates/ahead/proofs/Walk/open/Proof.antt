@@ -1,29 +1,32 @@
--- `ahead::Walk::open` meets its contract: a stage that refuses hands the state back, and what passes every stage opens. Assumes
--- nothing.
-use mathlib.Core.Path.{_≡_, sym, ap, _∙_}
+-- `ahead::Walk::open` meets its contract: what the checks refuse hands the state back, and what passes them opens. Assumes nothing.
+use Prim.Native.Nat.{_≤_}
 use native.Mathlib.Omega.{arith}
+use mathlib.Core.Path.{_≡_, sym}
 use lib.ListN.{length}
 use lib.Seq.{length-take-le}
 use Rattle.digit.specs.Moving.{movingAs}
-use Rattle.gray_theory.specs.Answers.{given}
-use Rattle.gray_theory.specs.Calls.{sizeCall}
-use Rattle.gray.specs.Enums.{countedAs}
-use Rattle.gray_theory.specs.Refusals.{accepted}
-use Rattle.gray.specs.Passing.{passed-on}
-use Rattle.gray_theory.specs.Capacities.{right-capacity}
+use Rattle.gray_theory.specs.Radices.{digits}
+use Rattle.gray_theory.specs.Capacities.{Openable}
 use Rattle.ahead.specs.Structs.{walkAs}
-use Rattle.ahead.proofs.Ranges.{opening-refused, capacity-refused, opening-given}
+use Rattle.ahead.proofs.Openings.{checked-on, checked-through, few-digits, opening-refused, opening-given}
 use borrow.Author.Needs.{needs}
 use Rattle.ahead.proofs.Walk.open.Statement.{statement}
 use Rattle.ahead.proofs.Walk.open.Tie as tie
 
--- what is known once the radices are accepted
-size-is : (c : tie.After-enum-told) →
-    sizeCall (c .before .before .before .before .args .radices .now) ≡ given (c .enum-told .given .0 .0)
-size-is c = sym (c .before .before .size .ensures) ∙ ap countedAs (c .enum-told .given .1)
+-- where the checks are made, and what is known once they are passed
+abbrev start : tie.After-checked → tie.Start
+start c = c .before .before
 
-size-requires : tie.Need-size-requires
-size-requires c κs = search needs
+opens : (c : tie.After-enum-told) → Openable (digits (start (c .before .before) .args .radices .now)) (start (c .before .before) .args .capacity)
+opens c =
+    let a = start (c .before .before) .args in
+    checked-through (a .radices .now) (a .capacity) _ (c .before .before .checked .ensures) _ (c .enum-told .given .1) .0
+
+few : (c : tie.After-enum-told) → length (start (c .before .before) .args .radices .now) ≤ 48
+few c = few-digits (start (c .before .before) .args .radices .now) _ (opens c)
+
+checked-requires : tie.Need-checked-requires
+checked-requires c κs = search needs
 
 enum-told : tie.Need-enum-told
 enum-told c = search needs
@@ -37,15 +40,9 @@ number-requires c κs = search needs
 returns : tie.Need-returns
 returns c =
     let told = c .before in
-    let a = told .before .before .before .before .args in
+    let a = start (told .before .before) .args in
     opening-refused (walkAs (a .self)) (a .radices .now) (a .capacity) _
-    (passed-on _ _ _ _ _ (told .before .before .size .ensures) (told .enum-told2 .given .1) (c .number .ensures))
-
-returns-2 : tie.Need-returns-2
-returns-2 c =
-    let told = c .before in
-    let a = told .before .before .before .before .args in
-    capacity-refused (walkAs (a .self)) (a .radices .now) (a .capacity) _ (size-is told) (c .if1 .taken)
+    (checked-on (a .radices .now) (a .capacity) _ (told .before .before .checked .ensures) _ _ _ (told .enum-told2 .given .1) (c .number .ensures))
 
 reversed-requires : tie.Need-reversed-requires
 reversed-requires c κs = search needs
@@ -53,8 +50,7 @@ reversed-requires c κs = search needs
 -- the digits stand in an array
 array-share-prefix-digits : tie.Need-array-share-prefix-digits
 array-share-prefix-digits c =
-    let told = c .before .before in
-    let most = accepted (told .before .before .before .before .args .radices .now) _ (size-is told) .most in
+    let most = few (c .before) in
     let room : length (c .reversed .result) ≡ 48 = search needs in
     omega arith
 
@@ -65,28 +61,19 @@ moving-requires : tie.Need-moving-requires
 moving-requires c κs = search needs
 
 cast-fresh : tie.Need-cast-fresh
-cast-fresh c =
-    let told = c .before .before .before .before in
-    let most = accepted (told .before .before .before .before .args .radices .now) _ (size-is told) .most in
-    omega arith
+cast-fresh c = let most = few (c .before .before .before) in omega arith
 
 cast-fresh-2 : tie.Need-cast-fresh-2
-cast-fresh-2 c =
-    let passed = c .before .before .before in
-    let most = right-capacity (passed .before .before .before .before .before .args .capacity) (passed .if1 .left) .1 in
-    omega arith
+cast-fresh-2 c = let most = opens (c .before .before .before) .capacity in omega arith
 
 fresh-requires : tie.Need-fresh-requires
 fresh-requires c κs = search needs
 
-returns-3 : tie.Need-returns-3
-returns-3 c =
+returns-2 : tie.Need-returns-2
+returns-2 c =
     let made = c .before .before .before in
-    let told = made .before .before in
-    let a = told .before .before .before .before .args in
-    opening-given (walkAs (a .self)) (a .radices .now) (a .capacity) _ (walkAs (c .fresh .result)) _ (movingAs (c .before .moving .result))
-    (size-is told)
-    (made .before .if1 .left)
+    let a = start (made .before .before .before) .args in
+    opening-given (walkAs (a .self)) (a .radices .now) (a .capacity) (opens (made .before)) (walkAs (c .fresh .result)) _ (movingAs (c .before .moving .result))
     (made .reversed .ensures)
     (c .before .moving .ensures)
     (c .fresh .ensures)
@@ -95,12 +82,11 @@ pub open-spec : {M : Type 1} → statement M
 open-spec =
     tie.close
     (tie.spec
-    size-requires
+    checked-requires
     enum-told
     enum-told-2
     number-requires
     returns
-    returns-2
     reversed-requires
     array-share-prefix-digits
     slice-aggregate-moving
@@ -108,4 +94,4 @@ open-spec =
     cast-fresh
     cast-fresh-2
     fresh-requires
-    returns-3)
+    returns-2)

@@ -1,0 +1,269 @@
+-- Walks that are picked up at a setting (document 02, "Pick up a survey at a given setting"): which are, and what they do from there.
+use Prim.Native.Nat.{ℕ, zero, suc, _+_, _-_, _*_, _≤_, _<_}
+use native.Mathlib.Decide.{decLt}
+use native.Mathlib.Nat.{zero-add}
+use native.Mathlib.Omega.{arith}
+use mathlib.Core.Path.{_≡_, refl, sym, ap, subst, _∙_}
+use mathlib.Core.Logic.{_↔_}
+use mathlib.Core.Bool.{Bool, true, false, not}
+use mathlib.Core.List.{List}
+use borrow.Author.Tests.{not-false}
+use lib.ListN.{length}
+use Rattle.gray_theory.specs.Bools.{impossible}
+use Rattle.gray_theory.specs.Answers.{Answer, given, refused, refusing}
+use Rattle.gray_theory.specs.Radices.{digits, size, wrongCount, wrongRadix, tooMany}
+use Rattle.gray_theory.specs.Words.{isWord, rank}
+use Rattle.gray_theory.specs.Changes.{change}
+use Rattle.gray_theory.specs.Ranks.{rank-below, wordAt-of-rank}
+use Rattle.gray_theory.specs.Arrays.{filled}
+use Rattle.gray_theory.specs.Locks.{unlocked}
+use Rattle.gray_theory.specs.Sizes.{size-pos}
+use Rattle.gray_theory.specs.Turns.{downsAt}
+use Rattle.gray_theory.specs.Unlocked.{size-unlocked}
+use Rattle.gray_theory.specs.Refusals.{passed}
+use Rattle.gray_theory.specs.Capacities.{Openable, wrongCapacity, ofSurvey, within-openable, openable-passes}
+use Rattle.gray_theory.specs.Engines.{moved, ended}
+use Rattle.ahead_theory.specs.States.{Producer, Walk, openCheck}
+use Rattle.ahead_theory.specs.Calls.{fresh, openWith, openOf}
+use Rattle.ahead_theory.specs.Runs.{state, answer}
+use Rattle.ahead_theory.specs.Pickups.{resumeCheck, unfilled, fill, downsFromStart, pickedUp, resumeWith, resumeOf}
+use Rattle.ahead_theory.specs.GoingOn.{GoesOn, Does, Does.names, Does.is-end, Does.is-dry, KeepsToTheList, rebuffered, Agrees}
+use Rattle.ahead_theory.specs.Openings.{opens-exactly, opens-fresh}
+use Rattle.ahead_theory.specs.Positions.{buffered, Ahead}
+use Rattle.ahead_theory.specs.Canonical.{same-walk}
+use Rattle.ahead_theory.specs.Rounds.{running}
+use Rattle.ahead_theory.specs.Filling.{reach, reach-some, filled-ahead, filled-position, ahead-filled, fill-within}
+use Rattle.ahead_theory.specs.Standing.{Placed, stepsTo}
+use Rattle.ahead_theory.specs.Clauses.{keeps-to-the-list, queued-is-not-dry, goes-on, stands-after, fresh-placed, fresh-ahead}
+
+-- ---- the walk from the start
+-- the state that it comes to after t calls, with places enough
+module _ (ms : List ℕ) (c : ℕ) (v : Openable ms c) (enough : length (unlocked ms) ≤ 2 * c) where
+  fresh-goes-on : GoesOn ms 0 (fresh ms c)
+  fresh-goes-on =
+      let pos = size-pos ms (v .survey .one) in
+      goes-on ms c (size ms - 1) v (omega arith) 0 (fresh ms c) (fresh-placed ms c v) enough (fresh-ahead ms c v)
+
+  fresh-at : (t : ℕ) → t < size ms → Placed ms c t (state (fresh ms c) t)
+  fresh-at t below =
+      let pos = size-pos ms (v .survey .one) in
+      subst (λ (j : ℕ). Placed ms c j (state (fresh ms c) t)) (zero-add t)
+      (stands-after ms c (size ms - 1) v (omega arith) 0 (fresh ms c) (fresh-placed ms c v) enough (fresh-ahead ms c v) t (omega arith))
+
+-- its directions at rank r: each digit has turned as often as its radix divides one more than the rank of the slower digits and its own
+pub downs-from-start : (ms : List ℕ) (c : ℕ) → Openable ms c → (r : ℕ) → r < size ms → downsFromStart ms r ≡ filled 48 false (downsAt ms r)
+downs-from-start ms c v r below =
+    let most = buffered v .most in
+    let wide : Openable ms 32 = record { survey = v .survey; place = omega arith; capacity = omega arith } in
+    ap (λ (u : Walk). u .downs) (fresh-at ms 32 wide (omega arith) r below .is-state)
+
+-- ---- the state
+module _ (ms : List ℕ) (c : ℕ) (v : Openable ms c) (word : List ℕ) (is-word : isWord ms word ≡ true) where
+  abbrev r : ℕ
+  r = rank ms word
+
+  abbrev q : ℕ
+  q = reach (unlocked ms) c r
+
+  below : r < size ms
+  below = rank-below ms word is-word
+
+  below-moving : r < size (unlocked ms)
+  below-moving = rw (size-unlocked ms (v .survey .one)) below
+
+  -- its buffer holds the next entries, the fewer of c and N − rank, and no useful step is counted
+  pub picked-up-is : pickedUp ms c word ≡ running ms c 0 r q 0
+  unfolding pickedUp
+  picked-up-is =
+      same-walk
+      (ap (filled 48 0) (sym (wordAt-of-rank ms word is-word)))
+      (downs-from-start ms c v r below)
+      (filled-ahead (unlocked ms) c (buffered v) r below-moving)
+      refl
+
+  placed : Placed ms c r (pickedUp ms c word)
+  placed =
+      record {
+        s = 0;
+        k = q;
+        p = 0;
+        at = filled-position (unlocked ms) c (buffered v) r below-moving;
+        below = below;
+        low = omega arith;
+        is-state = picked-up-is;
+      }
+
+  last-is : size ms ≡ suc (size ms - 1)
+  last-is = let less = below in omega arith
+
+  keeps : KeepsToTheList ms c r (pickedUp ms c word)
+  keeps = keeps-to-the-list ms c (size ms - 1) v last-is r (pickedUp ms c word) placed
+
+  first-not-dry : answer (pickedUp ms c word) 1 ≡ refused 10 → ⊥
+  unfolding placed
+  first-not-dry =
+      queued-is-not-dry ms c (size ms - 1) v last-is r (pickedUp ms c word) placed (reach-some (unlocked ms) c (buffered v) r below-moving)
+
+  goes : length (unlocked ms) ≤ 2 * c → GoesOn ms r (pickedUp ms c word)
+  unfolding placed
+  goes enough =
+      goes-on ms c (size ms - 1) v last-is r (pickedUp ms c word) placed enough (ahead-filled (unlocked ms) c (buffered v) r below-moving enough)
+
+  -- and the walk from the start with c′ places
+  module _ (c′ : ℕ) (v′ : Openable ms c′) (enough′ : length (unlocked ms) ≤ 2 * c′) where
+    same-later : length (unlocked ms) ≤ 2 * c → (t : ℕ) → 1 ≤ t → answer (pickedUp ms c word) t ≡ answer (fresh ms c′) (r + t)
+    same-later enough t low =
+        let g = goes enough in
+        let f = fresh-goes-on ms c′ v′ enough′ in
+        elim (decLt (r + t) (size ms)) [
+          | yes more ↦
+              g .moves t low more .answers
+              ∙ ap (λ (j : ℕ). given (moved (change ms j))) (sym (zero-add (r + t)))
+              ∙ sym (f .moves (r + t) (omega arith) (omega arith) .answers)
+          | no past ↦ g .end t (omega arith) ∙ sym (f .end (r + t) (omega arith))
+        ]
+
+    agrees : Agrees ms c r (pickedUp ms c word) (fresh ms c′)
+    agrees =
+        let there = fresh-at ms c′ v′ enough′ r below .is-state in
+        record {
+          here =
+              picked-up-is
+              ∙ ap (λ (u : Walk). rebuffered u c (running ms c 0 r q 0 .producer)) (sym there)
+              ∙ ap (λ (u : Walk). rebuffered (state (fresh ms c′) r) c (u .producer)) (sym picked-up-is);
+          later = same-later;
+        }
+
+-- ---- the call
+resumable : (ms : List ℕ) (c : ℕ) (word : List ℕ) → resumeCheck ms c word ≡ given tt → Openable ms c × (isWord ms word ≡ true)
+resumable ms c word e =
+    let (o, rest) = within-openable ms c (refusing 8 (not (isWord ms word)) (given tt)) tt e in
+    (o, not-false (isWord ms word) (passed 8 (not (isWord ms word)) (given tt) tt rest .0))
+
+passes : (ms : List ℕ) (c : ℕ) (word : List ℕ) → Openable ms c → isWord ms word ≡ true → resumeCheck ms c word ≡ given tt
+passes ms c word o e = openable-passes ms c (refusing 8 (not (isWord ms word)) (given tt)) o ∙ rw e
+
+accepted-given : (w : Walk) (ms : List ℕ) (c : ℕ) (word : List ℕ) (a : Answer Unit) → resumeWith w ms c word a .answer ≡ given tt → a ≡ given tt
+accepted-given w ms c word (given u) e = e
+accepted-given w ms c word (refused k) e = impossible (cc)
+
+-- it is accepted exactly if survey and capacity could be opened and the word is a setting of the survey
+pub resumes-exactly : (w : Walk) (radices : List ℕ) (c : ℕ) (word : List ℕ)
+    → (resumeOf w radices c word .answer ≡ given tt) ↔ (Openable (digits radices) c × (isWord (digits radices) (digits word) ≡ true))
+unfolding resumeOf
+resumes-exactly w radices c word = (
+  λ e. resumable (digits radices) c (digits word) (accepted-given w (digits radices) c (digits word) (resumeCheck (digits radices) c (digits word)) e),
+  λ o. ap (λ (a : Answer Unit). resumeWith w (digits radices) c (digits word) a .answer) (passes (digits radices) c (digits word) (o .0) (o .1)),
+)
+
+-- it then hands back the picked-up state, whatever state it was made on
+pub resumes-picked-up : (w : Walk) (radices : List ℕ) (c : ℕ) (word : List ℕ)
+    → resumeOf w radices c word .answer ≡ given tt
+    → resumeOf w radices c word .state ≡ pickedUp (digits radices) c (digits word)
+unfolding resumeOf
+resumes-picked-up w radices c word e =
+    ap (λ (a : Answer Unit). resumeWith w (digits radices) c (digits word) a .state)
+    (accepted-given w (digits radices) c (digits word) (resumeCheck (digits radices) c (digits word)) e)
+
+refused-given-back : (w : Walk) (ms : List ℕ) (c : ℕ) (word : List ℕ) (a : Answer Unit) (k : ℕ)
+    → resumeWith w ms c word a .answer ≡ refused k
+    → resumeWith w ms c word a .state ≡ w
+refused-given-back w ms c word (given u) k e = impossible (cc)
+refused-given-back w ms c word (refused i) k e = refl
+
+-- a refused one hands back the state as it came
+pub refused-resuming-keeps-the-state : (w : Walk) (radices : List ℕ) (c : ℕ) (word : List ℕ) (k : ℕ)
+    → resumeOf w radices c word .answer ≡ refused k
+    → resumeOf w radices c word .state ≡ w
+unfolding resumeOf
+refused-resuming-keeps-the-state w radices c word k e =
+    refused-given-back w (digits radices) c (digits word) (resumeCheck (digits radices) c (digits word)) k e
+
+same-refusal : (ms : List ℕ) (c k : ℕ) (rest : Answer Unit) → openCheck ms c ≡ refused k → ofSurvey ms c rest ≡ refused k
+same-refusal ms c k rest e = by (wrongCount ms) (wrongRadix ms) (tooMany ms) (wrongCapacity c) e
+  where
+    by : (a b m w : Bool)
+        → _≡_ {A = Answer Unit} (refusing 2 a (refusing 3 b (refusing 4 m (refusing 5 w (given tt))))) (refused k)
+        → refusing 2 a (refusing 3 b (refusing 4 m (refusing 5 w rest))) ≡ refused k
+    by true b m w e = let t : 2 ≡ k = cc in ap refused t
+    by false true m w e = let t : 3 ≡ k = cc in ap refused t
+    by false false true w e = let t : 4 ≡ k = cc in ap refused t
+    by false false false true e = let t : 5 ≡ k = cc in ap refused t
+    by false false false false e = impossible (cc)
+
+-- a survey and a capacity that opening refuses get the same number here, whatever the word is
+pub refused-as-opening : (w : Walk) (radices : List ℕ) (c : ℕ) (word : List ℕ) (k : ℕ)
+    → openOf w radices c .answer ≡ refused k
+    → resumeOf w radices c word .answer ≡ refused k
+unfolding resumeOf openOf
+refused-as-opening w radices c word k e =
+    let ms = digits radices in
+    ap (λ (a : Answer Unit). resumeWith w ms c (digits word) a .answer)
+    (same-refusal ms c k (refusing 8 (not (isWord ms (digits word))) (given tt)) (by (openCheck ms c) refl e))
+  where
+    by : (a : Answer Unit) → openCheck (digits radices) c ≡ a → openWith w (digits radices) c a .answer ≡ refused k → openCheck (digits radices) c ≡ refused k
+    by (given u) f g = impossible (cc)
+    by (refused i) f g = f ∙ g
+
+-- where opening accepts them, a word that is no setting gets 8
+pub wrong-setting-gets-8 : (w : Walk) (radices : List ℕ) (c : ℕ) (word : List ℕ)
+    → Openable (digits radices) c
+    → isWord (digits radices) (digits word) ≡ false
+    → resumeOf w radices c word .answer ≡ refused 8
+unfolding resumeOf
+wrong-setting-gets-8 w radices c word o e =
+    let ms = digits radices in
+    let wrong : resumeCheck ms c (digits word) ≡ refused 8 =
+    openable-passes ms c (refusing 8 (not (isWord ms (digits word))) (given tt)) o ∙ rw e in
+    ap (λ (a : Answer Unit). resumeWith w ms c (digits word) a .answer) wrong
+
+-- ---- what is promised
+-- Every walk that is picked up, with places for half of the digits that move, rounded up, goes on from the rank of its setting: each
+-- call names the list's next change, from the call after the last on every call answers end, and none is dry.
+pub picked-up-walks-go-on : (w : Walk) (radices : List ℕ) (c : ℕ) (word : List ℕ)
+    → resumeOf w radices c word .answer ≡ given tt
+    → length (unlocked (digits radices)) ≤ 2 * c
+    → GoesOn (digits radices) (rank (digits radices) (digits word)) (resumeOf w radices c word .state)
+picked-up-walks-go-on w radices c word accepted enough =
+    let (v, is-word) = resumes-exactly w radices c word .0 accepted in
+    rw (resumes-picked-up w radices c word accepted) (goes (digits radices) c v (digits word) is-word enough)
+
+-- With fewer places every move that it makes is the list's all the same, and a call that makes none is the end or dry. Whatever the
+-- capacity, the queue never holds more than c entries and no call gets 7.
+pub picked-up-walks-keep-to-the-list : (w : Walk) (radices : List ℕ) (c : ℕ) (word : List ℕ)
+    → resumeOf w radices c word .answer ≡ given tt
+    → KeepsToTheList (digits radices) c (rank (digits radices) (digits word)) (resumeOf w radices c word .state)
+picked-up-walks-keep-to-the-list w radices c word accepted =
+    let (v, is-word) = resumes-exactly w radices c word .0 accepted in
+    rw (resumes-picked-up w radices c word accepted) (keeps (digits radices) c v (digits word) is-word)
+
+-- At the last setting the first call is the end, whatever the capacity.
+pub last-setting-ends-at-once : (w : Walk) (radices : List ℕ) (c : ℕ) (word : List ℕ)
+    → resumeOf w radices c word .answer ≡ given tt
+    → suc (rank (digits radices) (digits word)) ≡ size (digits radices)
+    → answer (resumeOf w radices c word .state) 1 ≡ given ended
+last-setting-ends-at-once w radices c word accepted last =
+    let (v, is-word) = resumes-exactly w radices c word .0 accepted in
+    rw (resumes-picked-up w radices c word accepted)
+    (by (first-not-dry (digits radices) c v (digits word) is-word) (keeps (digits radices) c v (digits word) is-word .calls 1 (omega arith)))
+  where
+    by : {u : Walk} → (answer u 1 ≡ refused 10 → ⊥) → Does (digits radices) (rank (digits radices) (digits word)) u 1 → answer u 1 ≡ given ended
+    by some (names less n) = absurd (omega arith)
+    by some (is-end past e) = e
+    by some (is-dry e same) = absurd (some e)
+
+-- It is where the walk from the start comes to, at any capacity that is enough for that: the two differ in their buffers alone.
+pub picked-up-agrees : (w f : Walk) (radices : List ℕ) (c d : ℕ) (word : List ℕ)
+    → resumeOf w radices c word .answer ≡ given tt
+    → openOf f radices d .answer ≡ given tt
+    → length (unlocked (digits radices)) ≤ 2 * d
+    → Agrees (digits radices) c (rank (digits radices) (digits word)) (resumeOf w radices c word .state) (openOf f radices d .state)
+picked-up-agrees w f radices c d word accepted opened enough =
+    let (v, is-word) = resumes-exactly w radices c word .0 accepted in
+    let v′ = opens-exactly f radices d .0 opened in
+    rw (resumes-picked-up w radices c word accepted, opens-fresh f radices d opened)
+    (agrees (digits radices) c v (digits word) is-word d v′ enough)
+
+-- After each work step of the filling, too, the queue holds at most c entries.
+pub filling-keeps-the-capacity : (ms : List ℕ) (c r f : ℕ) → fill ms c f (unfilled ms r) .queued ≤ c
+filling-keeps-the-capacity ms c r f = fill-within ms c f (unfilled ms r) (omega arith)
