@@ -1,5 +1,5 @@
--- The states of a run from a fresh walk: each follows from how many entries are removed, t, how many are queued, k, and how many
--- carries are made towards the next, p. What a work step, a removal and a call do with them.
+-- The states of a run: each follows from how many entries are removed, t, how many are queued, k, and how many carries are made
+-- towards the next, p. What a work step, a removal and a call do with them.
 use Prim.Native.Nat.{ℕ, zero, suc, _+_, _-_, _*_, _<_}
 use native.Mathlib.Numerals.{add-one}
 use native.Mathlib.Nat.{mul-comm, add-zero}
@@ -22,7 +22,7 @@ use Rattle.ahead_theory.specs.States.{Producer, Walk, places}
 use Rattle.ahead_theory.specs.Work.{Work, carry, append, idle, countAt, radixAt, runOut, kind, done}
 use Rattle.ahead_theory.specs.InRange.{last-is-two, runs-out, carries-on as kind-carry, appends-one as kind-append, stays-full as kind-idle}
 use Rattle.ahead_theory.specs.Counters.{cleared, length-mixedDigits, length-cleared, cleared-at, carry-test, carry-clears, append-counts, ruler-most, ruler-places, ruler-at-multiple, allFrom-places, length-places, size-places}
-use Rattle.ahead_theory.specs.Positions.{Buffered, Position, Worked, Worked.carried, Worked.appended, Worked.idled, Worked.spent, stepsAt, one, gained, work-steps}
+use Rattle.ahead_theory.specs.Positions.{Buffered, Position, Worked, Worked.carried, Worked.appended, Worked.idled, Worked.spent, one, gained}
 
 -- ---- the entries queued
 -- entries t + 1 .. t + k
@@ -54,11 +54,7 @@ producerAt ms s t k p = record {
   steps = s;
 }
 
--- with all useful steps counted, as in a run from a fresh walk
-abbrev pub producerNow : List ℕ → ℕ → ℕ → ℕ → Producer
-producerNow ms t k p = producerAt ms (stepsAt ms t k p) t k p
-
--- the walk after t calls, with the producer q
+-- the walk at rank t, with the producer q
 abbrev pub walkAt : List ℕ → ℕ → ℕ → Bool → Producer → Walk
 walkAt ms c t over q = record {
   radices = filled 48 0 ms;

@@ -1,6 +1,6 @@
 -- What the phases of a run come to: from wherever a walk stands it keeps to the list; and, one by one, the clauses of demand 3, which
 -- is about walks from the start.
-use Prim.Native.Nat.{ℕ, zero, suc, _+_, _-_, _*_, _≤_, _<_}
+use Prim.Native.Nat.{ℕ, suc, _+_, _-_, _*_, _≤_, _<_}
 use native.Mathlib.Decide.{decLt}
 use native.Mathlib.Nat.{zero-add}
 use native.Mathlib.Omega.{arith}
@@ -36,7 +36,7 @@ use Rattle.ahead_theory.specs.Entries.{cost-zero}
 use Rattle.ahead_theory.specs.Positions.{buffered, Position, stepsAt, gained, Ahead, Behind, ahead-fresh, behind-fresh, steps-short, work-position, work-steps, gain-small, counter-lasts}
 use Rattle.ahead_theory.specs.Canonical.{entries, same-producer, same-walk, producerAt, not-run-out}
 use Rattle.ahead_theory.specs.Rounds.{round, running}
-use Rattle.ahead_theory.specs.Standing.{Placed, stepsTo, Over, placed-setting, placed-within, placed-ranged, over-within, over-ranged}
+use Rattle.ahead_theory.specs.Standing.{Placed, stepsTo, placed-setting, placed-within, placed-ranged, over-within, over-ranged}
 use Rattle.ahead_theory.specs.Tallies.{Tallied, tally-finished}
 use Rattle.ahead_theory.specs.Phases.{Still, still-on, Going, Dry, Ending, Phase, Phase.going, Phase.dried, Phase.over, phase}
 

@@ -15,13 +15,12 @@ use Rattle.gray_theory.specs.Words.{member}
 use Rattle.gray_theory.specs.Changes.{change}
 use Rattle.gray_theory.specs.Engines.{Event, moved, ended, Handed, refusedWith, after}
 use Rattle.gray_theory.specs.Capacities.{Openable}
-use Rattle.ahead_theory.specs.States.{Walk, setting}
+use Rattle.ahead_theory.specs.States.{Walk}
 use Rattle.ahead_theory.specs.Work.{Work}
 use Rattle.ahead_theory.specs.Calls.{Course, removing, course, stepBy, stepOf}
 use Rattle.ahead_theory.specs.Runs.{state, answer, eventsBy, events}
 use Rattle.ahead_theory.specs.GoingOn.{NamesFrom}
-use Rattle.ahead_theory.specs.Positions.{buffered, Position, Worked, Worked.carried, Worked.appended, Worked.idled, Worked.spent, stepsAt, gained, Ahead, Behind, work-position, work-steps, gain-small, ahead-work, ahead-remove, ahead-queued, behind-work, behind-remove, behind-queued}
-use Rattle.ahead_theory.specs.Canonical.{producerAt, walkAt}
+use Rattle.ahead_theory.specs.Positions.{buffered, Position, Worked, Worked.carried, Worked.appended, Worked.idled, Worked.spent, stepsAt, Ahead, Behind, work-position, work-steps, gain-small, ahead-work, ahead-remove, ahead-queued, behind-work, behind-remove, behind-queued}
 use Rattle.ahead_theory.specs.Rounds.{stepsAfter, running, Round, round, dry-call, removing-call, move-call, end-call}
 use Rattle.ahead_theory.specs.Standing.{Placed, stepsTo, Over, placed-setting, over-goes, over-call}
 use Rattle.ahead_theory.specs.Tallies.{Tallied, tally-start, tally-twice, tally-remove}

@@ -1,5 +1,5 @@
 -- Walks that are picked up at a setting (document 02, "Pick up a survey at a given setting"): which are, and what they do from there.
-use Prim.Native.Nat.{ℕ, zero, suc, _+_, _-_, _*_, _≤_, _<_}
+use Prim.Native.Nat.{ℕ, suc, _+_, _-_, _*_, _≤_, _<_}
 use native.Mathlib.Decide.{decLt}
 use native.Mathlib.Nat.{zero-add}
 use native.Mathlib.Omega.{arith}
@@ -23,17 +23,17 @@ use Rattle.gray_theory.specs.Unlocked.{size-unlocked}
 use Rattle.gray_theory.specs.Refusals.{passed}
 use Rattle.gray_theory.specs.Capacities.{Openable, wrongCapacity, ofSurvey, within-openable, openable-passes}
 use Rattle.gray_theory.specs.Engines.{moved, ended}
-use Rattle.ahead_theory.specs.States.{Producer, Walk, openCheck}
+use Rattle.ahead_theory.specs.States.{Walk, openCheck}
 use Rattle.ahead_theory.specs.Calls.{fresh, openWith, openOf}
 use Rattle.ahead_theory.specs.Runs.{state, answer}
 use Rattle.ahead_theory.specs.Pickups.{resumeCheck, unfilled, fill, downsFromStart, pickedUp, resumeWith, resumeOf}
 use Rattle.ahead_theory.specs.GoingOn.{GoesOn, Does, Does.names, Does.is-end, Does.is-dry, KeepsToTheList, rebuffered, Agrees}
 use Rattle.ahead_theory.specs.Openings.{opens-exactly, opens-fresh}
-use Rattle.ahead_theory.specs.Positions.{buffered, Ahead}
+use Rattle.ahead_theory.specs.Positions.{buffered}
 use Rattle.ahead_theory.specs.Canonical.{same-walk}
 use Rattle.ahead_theory.specs.Rounds.{running}
 use Rattle.ahead_theory.specs.Filling.{reach, reach-some, filled-ahead, filled-position, ahead-filled, fill-within}
-use Rattle.ahead_theory.specs.Standing.{Placed, stepsTo}
+use Rattle.ahead_theory.specs.Standing.{Placed}
 use Rattle.ahead_theory.specs.Clauses.{keeps-to-the-list, queued-is-not-dry, goes-on, stands-after, fresh-placed, fresh-ahead}
 
 -- ---- the walk from the start

@@ -32,7 +32,7 @@ pub record Placed (ms : List ℕ) (c t : ℕ) (w : Walk) : Type 0 where
   pub low : s ≤ 2 * t
   pub is-state : w ≡ running ms c s t k p
 
--- the useful steps that an entry finished by then has cost, counted or not
+-- the useful steps that have brought it there, counted or not
 abbrev pub stepsTo : {ms : List ℕ} {c t : ℕ} {w : Walk} → Placed ms c t w → ℕ
 stepsTo {ms} {c} {t} from = stepsAt (unlocked ms) t (from .k) (from .p)
 

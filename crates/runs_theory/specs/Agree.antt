@@ -17,7 +17,7 @@ use Rattle.gray_theory.specs.Radices.{digits, size}
 use Rattle.gray_theory.specs.Sizes.{size-pos}
 use Rattle.gray_theory.specs.Locks.{unlocked}
 use Rattle.gray_theory.specs.Engines.{Event, moved, ended, Handed, after, answerOf}
-use Rattle.gray_theory.specs.RunCalls.{Stop, nothing, end, refusal, Ran, Running, runFrom, runRefused, runMakes, runWith}
+use Rattle.gray_theory.specs.RunCalls.{Stop, nothing, end, refusal, Ran, runFrom, runMakes, runWith}
 use Rattle.gray_theory.specs.SingleCalls.{run-in-range-is-made}
 use Rattle.gray_theory.specs.RunLaws.{Moved, moved-none, moved-more, all-made, ends-there, refused-there}
 use Rattle.ahead_theory.specs.States as walks

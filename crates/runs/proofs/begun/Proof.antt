@@ -1,6 +1,6 @@
 -- `runs::begun` meets its contract: a closed state, opened or picked up. Assumes nothing.
-use mathlib.Core.Path.{_≡_, sym, ap, _∙_}
-use mathlib.Core.Bool.{Bool, cond}
+use mathlib.Core.Path.{sym, ap, _∙_}
+use mathlib.Core.Bool.{Bool}
 use Rattle.ahead_theory.specs.States.{Walk}
 use Rattle.ahead_theory.specs.Calls.{openOf}
 use Rattle.ahead_theory.specs.Pickups.{resumeOf}

@@ -1,6 +1,6 @@
 -- `runs::moves_from` meets its contract: an opening that is refused passes its number on, and one that is accepted is run. Assumes
 -- nothing.
-use mathlib.Core.Path.{_≡_, sym, ap, _∙_}
+use mathlib.Core.Path.{sym, ap, _∙_}
 use Rattle.gray_theory.specs.Answers.{numberOf}
 use Rattle.gray_theory.specs.Engines.{Handed}
 use Rattle.gray.specs.Enums.{openingAs}
