@@ -9,7 +9,7 @@ use borrow.Author.Tests.{lt-ltb, le-ltb}
 use lib.Dec.{ltb}
 use lib.ListN.{length, take, replicate, length-reverse}
 use Rattle.gray_theory.specs.Answers.{given, refusing}
-use Rattle.gray_theory.specs.Radices.{digits, size, mixedDigits, allFrom}
+use Rattle.gray_theory.specs.Radices.{digits, size, mixedDigits}
 use Rattle.gray_theory.specs.Words.{isWord, rank}
 use Rattle.gray_theory.specs.Ranks.{rank-below}
 use Rattle.gray_theory.specs.Digits.{word-long}
@@ -23,7 +23,7 @@ use Rattle.ahead_theory.specs.States.{Walk}
 use Rattle.ahead_theory.specs.Counters.{length-mixedDigits}
 use Rattle.ahead_theory.specs.Pickups.{filledAt, downsFromStart, standing, pickedUp, resumeWith, resumeOf}
 use Rattle.ahead_theory.specs.PickedUp.{downs-from-start}
-use Rattle.ahead.specs.Pickups.{unfilledWith, Unfilled, filledAhead}
+use Rattle.ahead.specs.Pickups.{RankedWord, unfilledWith, Unfilled, filledAhead}
 use Rattle.ahead.proofs.Openings.{few-digits, radices-are, moving-are}
 use Rattle.ahead.proofs.Stands.{zero-filled}
 
@@ -63,9 +63,18 @@ module _
     numbers : moving ≡ movingDigits (digits l)
     numbers = moving-are l c (p .opens) radices moving (p .radices-is) (p .moving-is)
 
+    long : length word ≡ length l
+    long = word-long l word (p .is-word)
+
+    setting : notches ≡ filled 48 0 (digits word)
+    setting = let most = few in let same = long in p .notches-is ∙ digit-array word (omega arith)
+
+    word-taken : take (length l) notches ≡ digits word
+    word-taken = ap₂ take (sym long ∙ sym (length-reverse word)) setting ∙ take-filled 48 0 (digits word)
+
     -- what the code asks for on its way
-    pub stands-at : (length l ≤ 48) × (allFrom 1 (take (length l) radices) ≡ true)
-    stands-at = (few, ap (allFrom 1) taken ∙ p .opens .survey .one)
+    pub stands-at : (length l ≤ 48) × RankedWord (take (length l) radices) (take (length l) notches) r
+    stands-at = (few, record { is-word = ap₂ isWord taken word-taken ∙ p .is-word; ranks = p .ranks ∙ sym (ap₂ rank taken word-taken) })
 
     pub rank-within : r ≤ total
     rank-within = let below = rank-small in let whole = p .whole in omega arith
@@ -101,11 +110,8 @@ module _
       unfolding resumeOf pickedUp
       resuming-given w resumed e =
           let ms = digits l in
-          let most = few in
-          let long = word-long l word (p .is-word) in
           let in-array = radices-are l c (p .opens) radices moving (p .radices-is) (p .moving-is) in
           let count = sym (length-reverse l) in
-          let setting : notches ≡ filled 48 0 (digits word) = p .notches-is ∙ digit-array word (omega arith) in
           let downs : filled 48 false (downsAt (take (length l) radices) r) ≡ downsFromStart ms r =
           ap (λ t. filled 48 false (downsAt t r)) taken ∙ sym (downs-from-start ms c (p .opens) r rank-small) in
           let buffer : filledAt (unlocked (take (length l) radices)) c r ≡ filledAt (unlocked ms) c r = ap (λ t. filledAt (unlocked t) c r) taken in

@@ -4,7 +4,8 @@ use mathlib.Core.Path.{_≡_}
 use mathlib.Core.Bool.{Bool, true, false}
 use mathlib.Core.List.{List}
 use lib.ListN.{length, take, replicate}
-use Rattle.gray_theory.specs.Radices.{mixedDigits, size, allFrom}
+use Rattle.gray_theory.specs.Radices.{mixedDigits, size}
+use Rattle.gray_theory.specs.Words.{isWord, rank}
 use Rattle.gray_theory.specs.Arrays.{filled}
 use Rattle.gray_theory.specs.Locks.{MovingDigits, unlocked, movingInRange}
 use Rattle.gray_theory.specs.Turns.{downsAt}
@@ -14,37 +15,42 @@ use Rattle.ahead_theory.specs.Pickups.{unfilled, filledAt}
 use Rattle.ahead_theory.specs.GoingOn.{rebuffered}
 use Rattle.ahead_theory.specs.Filling.{reach}
 
--- the radices of a survey, and arrays with nothing in them yet
-pub record Standable (radices counter : List ℕ) (downs : List Bool) : Type 0 where
+-- a word of a survey, and its rank
+pub record RankedWord (radices word : List ℕ) (r : ℕ) : Type 0 where
+  pub is-word : isWord radices word ≡ true
+  pub ranks : r ≡ rank radices word
+
+-- the same of no more digits than an engine has, and arrays with nothing in them yet
+pub record Standable (radices word : List ℕ) (r : ℕ) (counter : List ℕ) (downs : List Bool) : Type 0 where
   pub most : length radices ≤ 48
-  pub one : allFrom 1 radices ≡ true
+  pub there : RankedWord radices word r
   pub no-counts : counter ≡ replicate 49 0
   pub all-up : downs ≡ replicate 48 false
 
 -- the counter and the directions at a rank
-pub record Stood (radices : List ℕ) (rank : ℕ) (counter : List ℕ) (downs : List Bool) : Type 0 where
-  pub counts : counter ≡ filled 49 0 (mixedDigits (unlocked radices) rank)
-  pub directions : downs ≡ filled 48 false (downsAt radices rank)
+pub record Stood (radices : List ℕ) (r : ℕ) (counter : List ℕ) (downs : List Bool) : Type 0 where
+  pub counts : counter ≡ filled 49 0 (mixedDigits (unlocked radices) r)
+  pub directions : downs ≡ filled 48 false (downsAt radices r)
 
 -- the state at a word of this rank, before any filling
 abbrev pub unfilledWith : List ℕ → ℕ → MovingDigits → ℕ → List ℕ → ℕ → Walk
-unfilledWith radices n moving c word rank = record {
+unfilledWith radices n moving c word r = record {
   radices = radices;
   n = n;
   moving = moving;
   word = word;
   capacity = c;
-  downs = filled 48 false (downsAt (take n radices) rank);
+  downs = filled 48 false (downsAt (take n radices) r);
   ended = false;
   producer =
       record {
-        counter = filled 49 0 (mixedDigits (unlocked (take n radices)) rank);
+        counter = filled 49 0 (mixedDigits (unlocked (take n radices)) r);
         place = 1;
         queue = replicate 32 0;
         queued = 0;
         steps = 0;
       };
-  moves = rank;
+  moves = r;
 }
 
 -- a walk at the rank that it has made moves to, before any filling, and how many entries fill its buffer
