@@ -42,7 +42,7 @@ before-last m p b two e = odd ∙ sym (rw (le-leb 2 m two, ne-eqb (b + 1) m (λ 
         ]
 
 -- it is that of the walk from the start
-pub directed : (m p b : ℕ) → b < m → cond (eqb (b + 1) m) (even p) (not (even p)) ≡ not (even (suc (p * m + b) / m))
+directed : (m p b : ℕ) → b < m → cond (eqb (b + 1) m) (even p) (not (even p)) ≡ not (even (suc (p * m + b) / m))
 directed m p b h =
     elim (ℕ-discrete (b + 1) m) [
       | yes e ↦
@@ -132,7 +132,6 @@ counted-more m rest left b counted e h (locked rests one) =
 -- the digit that comes next, and the rank p of those after it
 record Next (m a : ℕ) (radices word : List ℕ) (i p : ℕ) : Type 0 where
   radix-is : drop i radices ≡ m ∷ drop (i + 1) radices
-  digit-is : drop i word ≡ a ∷ drop (i + 1) word
   below : a < m
   others : isWord (drop (i + 1) radices) (drop (i + 1) word) ≡ true
   rank-is : rank (drop i radices) (drop i word) ≡ p * m + reflect m p a
@@ -221,7 +220,6 @@ module _ (radices word : List ℕ) (r : ℕ) where
         let (first, others) = and-eq-true-iff (ltb a m) (isWord rest (drop (i + 1) word)) .0 here in
         record {
           radix-is = radix-is;
-          digit-is = digit-is;
           below = ltb-true a m first;
           others = others;
           rank-is = ap₂ rank radix-is digit-is;
