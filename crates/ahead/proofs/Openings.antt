@@ -17,7 +17,8 @@ use Rattle.gray_theory.specs.Arrays.{digitArray, filled}
 use Rattle.gray_theory.specs.Filled.{digit-array, take-filled}
 use Rattle.gray_theory.specs.Refusals.{given-same, accepted, radices-accepted, limits-pass, passed}
 use Rattle.gray_theory.specs.Engines.{refusedWith}
-use Rattle.gray_theory.specs.Capacities.{wrongCapacity, ofSurvey, Openable, within-openable, openable-passes}
+use Rattle.gray_theory.specs.Capacities.{wrongCapacity, ofSurvey, Openable}
+use Rattle.gray_theory.specs.Refusals.{within-openable, openable-passes}
 use Rattle.gray.specs.Enums.{countedAs, rankedAs}
 use Rattle.gray.specs.declared.Counted.{Counted}
 use Rattle.gray.specs.declared.Counted.the-variants.{Size, Refused}

@@ -13,12 +13,13 @@ use Rattle.gray_theory.specs.Radices.{digits, size, mixedDigits}
 use Rattle.gray_theory.specs.Words.{isWord, rank}
 use Rattle.gray_theory.specs.Ranks.{rank-below}
 use Rattle.gray_theory.specs.Digits.{word-long}
-use Rattle.gray_theory.specs.Turns.{downsAt}
+use Rattle.gray_theory.specs.Indexed.{downsAt}
 use Rattle.gray_theory.specs.Arrays.{digitArray, filled}
 use Rattle.gray_theory.specs.Filled.{digit-array, take-filled}
 use Rattle.gray_theory.specs.Locks.{MovingDigits, unlocked, movingDigits, movingInRange}
 use Rattle.gray_theory.specs.Unlocked.{size-unlocked, unlocked-most, says-moving, moving-stored}
-use Rattle.gray_theory.specs.Capacities.{Openable, openable-passes}
+use Rattle.gray_theory.specs.Capacities.{Openable}
+use Rattle.gray_theory.specs.Refusals.{openable-passes}
 use Rattle.ahead_theory.specs.States.{Walk}
 use Rattle.ahead_theory.specs.Counters.{length-mixedDigits}
 use Rattle.ahead_theory.specs.Pickups.{filledAt, downsFromStart, standing, pickedUp, resumeWith, resumeOf}

@@ -21,7 +21,7 @@ use Rattle.gray_theory.specs.Arrays.{filled}
 use Rattle.gray_theory.specs.Filled.{filled-append, length-filled}
 use Rattle.gray_theory.specs.Locks.{MovingDigits, unlocked}
 use Rattle.gray_theory.specs.Unlocked.{Lock, Lock.free, Lock.locked, lock}
-use Rattle.gray_theory.specs.Turns.{downsAt}
+use Rattle.gray_theory.specs.Indexed.{downsAt}
 use Rattle.ahead.specs.Pickups.{RankedWord, Standable, Stood, unfilledWith}
 
 -- ---- the direction of one digit, by the rank of the slower ones and its own digit of the rank

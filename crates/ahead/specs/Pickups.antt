@@ -8,7 +8,7 @@ use Rattle.gray_theory.specs.Radices.{mixedDigits, size}
 use Rattle.gray_theory.specs.Words.{isWord, rank}
 use Rattle.gray_theory.specs.Arrays.{filled}
 use Rattle.gray_theory.specs.Locks.{MovingDigits, unlocked, movingInRange}
-use Rattle.gray_theory.specs.Turns.{downsAt}
+use Rattle.gray_theory.specs.Indexed.{downsAt}
 use Rattle.gray_theory.specs.Capacities.{Openable}
 use Rattle.ahead_theory.specs.States.{Walk, survey, movingRadices}
 use Rattle.ahead_theory.specs.Pickups.{unfilled, filledAt}

@@ -7,7 +7,8 @@ use mathlib.Core.List.{List}
 use Rattle.gray_theory.specs.Answers.{Answer, given, refused}
 use Rattle.gray_theory.specs.Bools.{impossible}
 use Rattle.gray_theory.specs.Radices.{digits}
-use Rattle.gray_theory.specs.Capacities.{Openable, within-openable, openable-passes}
+use Rattle.gray_theory.specs.Capacities.{Openable}
+use Rattle.gray_theory.specs.Refusals.{within-openable, openable-passes}
 use Rattle.gray_theory.specs.Answers.{isGiven}
 use Rattle.ahead_theory.specs.States.{Walk, openCheck}
 use Rattle.ahead_theory.specs.Calls.{fresh, openWith, openOf}

@@ -18,10 +18,11 @@ use Rattle.gray_theory.specs.Ranks.{rank-below, wordAt-of-rank}
 use Rattle.gray_theory.specs.Arrays.{filled}
 use Rattle.gray_theory.specs.Locks.{unlocked}
 use Rattle.gray_theory.specs.Sizes.{size-pos}
-use Rattle.gray_theory.specs.Turns.{downsAt}
+use Rattle.gray_theory.specs.Indexed.{downsAt}
 use Rattle.gray_theory.specs.Unlocked.{size-unlocked}
 use Rattle.gray_theory.specs.Refusals.{passed}
-use Rattle.gray_theory.specs.Capacities.{Openable, wrongCapacity, ofSurvey, within-openable, openable-passes}
+use Rattle.gray_theory.specs.Capacities.{Openable, wrongCapacity, ofSurvey}
+use Rattle.gray_theory.specs.Refusals.{within-openable, openable-passes}
 use Rattle.gray_theory.specs.Engines.{moved, ended}
 use Rattle.ahead_theory.specs.States.{Walk, openCheck}
 use Rattle.ahead_theory.specs.Calls.{fresh, openWith, openOf}

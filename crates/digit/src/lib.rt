@@ -1,4 +1,5 @@
 // Single digits: the byte of a move, the range rule and the move that both engines make, and bytes as an engine's array.
+use gray::DIGITS;
 ghost use mathlib.Core.Path.{_≡_};
 ghost use Prim.Native.Nat.{_<_, _≤_, _+_};
 ghost use mathlib.Core.Bool.{_&&_, _||_};
@@ -10,6 +11,9 @@ ghost use Rattle.gray_theory.specs.Arrays.{digitArray};
 ghost use Rattle.gray_theory.specs.MoveBytes.{moveByte, moveDigit, moveDown};
 ghost use Rattle.digit.specs.Advances.{advancedFrom};
 ghost use Rattle.digit.specs.Moving.{movingAs, countMore, digitsMore, foundMore};
+
+// The most digits as a byte.
+pub const MOST: u8 = DIGITS as u8;
 
 // A digit with its direction.
 pub struct Directed {
@@ -54,13 +58,18 @@ fn passes(n: u8, number: u8, m: u8, a: u8, down: bool) -> bool
 // The range rule for the setting and the directions of n digits, which both engines keep; where n is over 48, of all that the
 // arrays hold. The loop goes over all places, whatever n is, and gathers its tests with no way out in between: three turns on
 // vectors. The place's number is counted as a byte, since an index would be compared as 64 bits.
-pub fn digits_in_range(n: u8, radices: [u8; 48], word: [u8; 48], downs: [bool; 48]) -> bool
+pub fn digits_in_range(
+    n: u8,
+    radices: [u8; DIGITS],
+    word: [u8; DIGITS],
+    downs: [bool; DIGITS],
+) -> bool
     ensures { λ r. ⌜ r ≡ digitsInRange (length (take n radices)) radices word downs ⌝ }
 {
     let mut number: u8 = 0;
     let mut ok = true;
     let mut i = 0;
-    while i < 48 {
+    while i < DIGITS {
         number += 1;
         ok = ok & passes(n, number, radices[i], word[i], downs[i]);
         i += 1;
@@ -101,7 +110,7 @@ pub fn advanced(m: u8, a: u8, down: bool) -> Directed
 
 // The digits of an engine's survey that move, in rising order, and how many they are.
 pub struct MovingDigits {
-    pub digits: [u8; 48],
+    pub digits: [u8; DIGITS],
     pub count: u8,
 }
 
@@ -121,11 +130,11 @@ fn joined(m: u8, digit: u8, to: &mut [u8], count: u8) -> u8
 pub fn moving(radices: &[u8]) -> MovingDigits
     ensures { λ r. ⌜ movingAs r ≡ movingDigitsOf (take 48 (now (radices .entry))) ⌝ }
 {
-    let mut digits = [0u8; 48];
+    let mut digits = [0u8; DIGITS];
     let mut count: u8 = 0;
     let n = radices.len();
     let mut i = 0;
-    while (i < n) & (i < 48) {
+    while (i < n) & (i < DIGITS) {
         count = joined(radices[i], i as u8 + 1, &mut digits, count);
         i += 1;
     }
@@ -143,13 +152,13 @@ fn moves(n: u8, number: u8, m: u8, held: u8) -> bool
 }
 
 // Each of n digits moves, and is held at its own place. One loop over all places, as above.
-fn all_move(n: u8, radices: [u8; 48], held: [u8; 48]) -> bool
+fn all_move(n: u8, radices: [u8; DIGITS], held: [u8; DIGITS]) -> bool
     ensures { λ r. ⌜ r ≡ allBelow (length (take n radices)) (λ i. leb 2 (getD radices i 0) && eqb (getD held i 0) (i + 1)) ⌝ }
 {
     let mut number: u8 = 0;
     let mut ok = true;
     let mut i = 0;
-    while i < 48 {
+    while i < DIGITS {
         number += 1;
         ok = ok & moves(n, number, radices[i], held[i]);
         i += 1;
@@ -179,14 +188,14 @@ fn found(m: u8, number: u8, held: &[u8], seen: Met) -> Met
 }
 
 // The digits that are held to move are those that do, whichever they are.
-fn are_moving(n: u8, radices: [u8; 48], stored: MovingDigits) -> bool
+fn are_moving(n: u8, radices: [u8; DIGITS], stored: MovingDigits) -> bool
     ensures { λ r. ⌜ r ≡ movingInRange (take n radices) (movingAs stored) ⌝ }
 {
     let held = stored.digits;
     let len = n as usize;
     let mut met = Met { count: 0, ok: true };
     let mut i = 0;
-    while (i < len) & (i < 48) {
+    while (i < len) & (i < DIGITS) {
         met = found(radices[i], i as u8 + 1, &held, met);
         i += 1;
     }
@@ -194,10 +203,10 @@ fn are_moving(n: u8, radices: [u8; 48], stored: MovingDigits) -> bool
 }
 
 // The range rule for the digits that move, of n radices with digit 1 first. Where as many are held as there are digits, each must move.
-pub fn moving_in_range(n: u8, radices: [u8; 48], stored: MovingDigits) -> bool
+pub fn moving_in_range(n: u8, radices: [u8; DIGITS], stored: MovingDigits) -> bool
     ensures { λ r. ⌜ r ≡ movingInRange (take n radices) (movingAs stored) ⌝ }
 {
-    if (stored.count == n) & (n <= 48) {
+    if (stored.count == n) & (n <= MOST) {
         let held = stored.digits;
         return all_move(n, radices, held);
     }
@@ -205,13 +214,13 @@ pub fn moving_in_range(n: u8, radices: [u8; 48], stored: MovingDigits) -> bool
 }
 
 // Lent bytes as an engine's array: digit 1 first, zeros in the places past the digits.
-pub fn reversed(bytes: &[u8]) -> [u8; 48]
+pub fn reversed(bytes: &[u8]) -> [u8; DIGITS]
     ensures { λ r. ⌜ r ≡ digitArray (now (bytes .entry)) ⌝ }
 {
-    let mut out = [0u8; 48];
+    let mut out = [0u8; DIGITS];
     let n = bytes.len();
     let mut i = 0;
-    while (i < n) & (i < 48) {
+    while (i < n) & (i < DIGITS) {
         out[i] = bytes[n - 1 - i];
         i += 1;
     }

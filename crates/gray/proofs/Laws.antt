@@ -20,7 +20,8 @@ use Rattle.gray.specs.declared.Checked.{Checked}
 use Rattle.gray.specs.declared.Checked.the-variants.{Fine, Refused as CheckRefused}
 use Rattle.gray.specs.declared.Product.the-variants.{Within, Over}
 use Rattle.gray_theory.specs.Words.{isWord, reflect, rank, member}
-use Rattle.gray_theory.specs.Members.{wordAt, member-is-wordAt, length-wordAt}
+use Rattle.gray_theory.specs.Indexed.{wordAt}
+use Rattle.gray_theory.specs.Members.{member-is-wordAt, length-wordAt}
 use Rattle.gray_theory.specs.Ranks.{rank-below}
 use Rattle.gray_theory.specs.Digits.{digits-more, size-taken, isWord-taken, word-long}
 use Rattle.gray_theory.specs.Sizes.{allFrom-weaker, size-append}

@@ -1,4 +1,4 @@
--- The answer enums: this paper's number and values for each case.
+-- The answer enums in document 01's terms: the values, or the number of the refusal, for each case.
 use Prim.Native.Nat.{ℕ}
 use Rattle.gray_theory.specs.Answers.{Answer, given, refused}
 use Rattle.gray_theory.specs.Engines.{Event, moved, ended}

@@ -7,7 +7,7 @@ use lib.Dec.{ltb}
 use lib.ListN.{length, take, drop}
 use Rattle.gray_theory.specs.Radices.{digits, bytes, size, allFrom}
 use Rattle.gray_theory.specs.Words.{isWord}
-use Rattle.gray_theory.specs.Members.{wordAt}
+use Rattle.gray_theory.specs.Indexed.{wordAt}
 use Rattle.gray.specs.declared.Product.{Product}
 use Rattle.gray.specs.declared.Product.the-variants.{Within, Over}
 use Rattle.gray.specs.declared.Checked.{Checked}

@@ -8,8 +8,8 @@ ghost use lib.ListN.{length, take, drop};
 ghost use Rattle.gray_theory.specs.Answers.{numberOf, Wrote};
 ghost use Rattle.gray_theory.specs.Radices.{digits, size as sizeOf, allFrom};
 ghost use Rattle.gray_theory.specs.Words.{reflect as reflected, isWord, rank as rankOf};
-ghost use Rattle.gray_theory.specs.Calls.{sizeCall, rankCall, wordCall};
-ghost use Rattle.gray.specs.Enums.{countedAs, rankedAs, writtenAs};
+ghost use Rattle.gray_theory.specs.Calls.{sizeCall, surveyCall, rankCall, wordCall};
+ghost use Rattle.gray.specs.Enums.{countedAs, rankedAs, writtenAs, openingAs};
 ghost use Rattle.gray.specs.Stages.{productAs, Taken, checkedAs, checkNumber, Rankable, Room, putWord};
 
 // What `size` answers: N, the number of words (settings) of a mixed-radix system (a survey).
@@ -70,6 +70,11 @@ enum Checked {
     Refused(u8),
 }
 
+// The most digits of a word (sluices of a survey), and the most places of a work-ahead buffer.
+pub const DIGITS: usize = 48;
+
+pub const CAPACITY: usize = 32;
+
 const LIMIT: u64 = 0x4000_0000_0000_0000;
 
 // Up to here any radix leaves the product within the limit, and the division is spared.
@@ -98,6 +103,18 @@ impl Ranked {
         match self {
             Ranked::Rank(_) => 0,
             Ranked::Refused(k) => k,
+        }
+    }
+}
+
+impl Opening {
+    // The same for an opening.
+    pub fn number(self) -> u8
+        ensures { λ r. ⌜ r ≡ numberOf (openingAs self) ⌝ }
+    {
+        match self {
+            Opening::Open => 0,
+            Opening::Refused(k) => k,
         }
     }
 }
@@ -210,7 +227,7 @@ pub fn size(radices: &[u8]) -> Counted
     ensures { λ r. ⌜ countedAs r ≡ sizeCall (now (radices .entry)) ⌝ }
 {
     let n = radices.len();
-    if (n == 0) | (48 < n) {
+    if (n == 0) | (DIGITS < n) {
         return Counted::Refused(2);
     }
     if !none_zero(radices) {
@@ -220,6 +237,20 @@ pub fn size(radices: &[u8]) -> Counted
     let Product::Within(total) = whole else {
         return Counted::Refused(4);
     };
+    Counted::Size(total)
+}
+
+// N again, once a survey and the capacity of its work-ahead buffer have passed refusals 2 to 5.
+pub fn survey_size(radices: &[u8], capacity: usize) -> Counted
+    ensures { λ r. ⌜ countedAs r ≡ surveyCall (now (radices .entry)) capacity ⌝ }
+{
+    let counted = size(radices);
+    let Counted::Size(total) = counted else {
+        return Counted::Refused(counted.number());
+    };
+    if (capacity == 0) | (CAPACITY < capacity) {
+        return Counted::Refused(5);
+    }
     Counted::Size(total)
 }
 

@@ -6,11 +6,16 @@ use mathlib.Core.List.{List}
 use lib.Dec.{leb}
 use Rattle.gray_theory.specs.Answers.{Answer, given, refusing, fitting}
 use Rattle.gray_theory.specs.Radices.{digits, bytes, size, ofRadices}
+use Rattle.gray_theory.specs.Capacities.{ofSurvey}
 use Rattle.gray_theory.specs.Words.{member, isWord, rank}
 
 -- N
 unfoldable pub sizeCall : List ℕ → Answer ℕ
 sizeCall radices = ofRadices (digits radices) (given (size (digits radices)))
+
+-- N, for a survey and a capacity that pass refusals 2 to 5
+unfoldable pub surveyCall : List ℕ → ℕ → Answer ℕ
+surveyCall radices c = ofSurvey (digits radices) c (given (size (digits radices)))
 
 -- the rank of a setting
 unfoldable pub rankCall : List ℕ → List ℕ → Answer ℕ

@@ -22,6 +22,11 @@ pub record Handed (S A : Type 0) : Type 0 where
 abbrev pub refusedWith : {S A : Type 0} → ℕ → S → Handed S A
 refusedWith k s = record { state = s; answer = refused k }
 
+-- an opening: refused, it hands back the state as it came; accepted, the state that it opens, whatever came
+abbrev pub openWith : {S : Type 0} → S → S → Answer Unit → Handed S Unit
+openWith s opened (given u) = record { state = opened; answer = given u }
+openWith s opened (refused k) = refusedWith k s
+
 -- the state after t calls from s
 unfoldable pub after : {S : Type 0} → (S → Handed S Event) → S → ℕ → S
 after call s zero = s

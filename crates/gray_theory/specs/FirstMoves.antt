@@ -17,7 +17,8 @@ use Rattle.gray_theory.specs.Members.{member-is-wordAt}
 use Rattle.gray_theory.specs.Rulers.{ruler-carry, ruler-no-carry, ruler-pos, change-is-ruler}
 use Rattle.gray_theory.specs.Directions.{digitInRange}
 use Rattle.gray_theory.specs.DigitRanges.{digit-says}
-use Rattle.gray_theory.specs.Turns.{downsAt, walk-in-range}
+use Rattle.gray_theory.specs.Indexed.{downsAt}
+use Rattle.gray_theory.specs.Turns.{walk-in-range}
 
 -- the ruler function at the product of the radices below digit i + 1, if that moves
 first-ruler : (ms : List ℕ) (i : ℕ) → allFrom 1 ms ≡ true → i < length ms → 2 ≤ getD ms i 0 → ruler ms (size (take i ms)) ≡ suc i

@@ -12,8 +12,12 @@ pub mod MoveBytes
 pub mod Calls
 pub mod Directions
 pub mod Arrays
+pub mod Capacities
+pub mod DirectedWords
 pub mod Engines
 pub mod RunCalls
+-- forms that theorems tie to those
+pub mod Indexed
 -- theorems
 pub mod Members
 pub mod Ranks
@@ -33,10 +37,11 @@ pub mod Increments
 pub mod Digits
 pub mod Reversals
 pub mod Refusals
-pub mod Capacities
 pub mod DigitRanges
 pub mod Gathers
 pub mod Filled
 pub mod Places
 pub mod WalkArrays
+pub mod WordRanges
+pub mod Openings
 pub mod RunLaws

@@ -11,12 +11,8 @@ use lib.ListN.{length, getD, length-append, length-map, List·getD-append}
 use lib.Seq.{getD-at, getD-append-add}
 use Rattle.gray_theory.specs.Radices.{size}
 use Rattle.gray_theory.specs.Words.{even, upward, downward, notches, through, list, member, reflect}
+use Rattle.gray_theory.specs.Indexed.{wordAt}
 use Rattle.gray_theory.specs.Sizes.{pos-of-lt-mul, quotient-below}
-
--- digit 1 of the word of rank r, and then the word of rank r / m of the slower digits
-unfoldable pub wordAt : List ℕ → ℕ → List ℕ
-wordAt [] r = []
-wordAt (m ∷ ms) r = reflect m (r / m) (r % m) ∷ wordAt ms (r / m)
 
 pub length-wordAt : (ms : List ℕ) (r : ℕ) → length (wordAt ms r) ≡ length ms
 unfolding wordAt

@@ -1,6 +1,7 @@
 -- Radices: a survey's notch counts (document 01). Lists of the theory have digit 1 first, the fastest digit; lent bytes have
 -- digit n first.
-use Prim.Native.Nat.{ℕ, _*_, _/_, _%_, _^_}
+use Prim.Native.Nat.{ℕ, _*_, _/_, _%_, _^_, _≤_}
+use mathlib.Core.Path.{_≡_}
 use mathlib.Core.Bool.{Bool, true, _&&_, _||_, not}
 use mathlib.Core.List.{List, [], _∷_, reverse}
 use lib.Dec.{leb, ltb, eqb}
@@ -42,3 +43,10 @@ tooMany ms = ltb (2 ^ 62) (size ms)
 -- the checks of a survey, and then the rest
 abbrev pub ofRadices : {A : Type 0} → List ℕ → Answer A → Answer A
 ofRadices ms rest = refusing 2 (wrongCount ms) (refusing 3 (wrongRadix ms) (refusing 4 (tooMany ms) rest))
+
+-- document 01, "Limits": what holds of radices that pass refusals 2, 3 and 4
+pub record Limits (ms : List ℕ) : Type 0 where
+  pub some : 1 ≤ length ms
+  pub most : length ms ≤ 48
+  pub one : allFrom 1 ms ≡ true
+  pub limit : size ms ≤ 2 ^ 62

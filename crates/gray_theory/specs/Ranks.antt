@@ -10,7 +10,8 @@ use lib.Arith.{digits-lt, digits-div, digits-mod}
 use lib.Dec.{ltb}
 use Rattle.gray_theory.specs.Radices.{size}
 use Rattle.gray_theory.specs.Words.{even, member, isWord, reflect, rank}
-use Rattle.gray_theory.specs.Members.{wordAt, member-is-wordAt}
+use Rattle.gray_theory.specs.Indexed.{wordAt}
+use Rattle.gray_theory.specs.Members.{member-is-wordAt}
 use Rattle.gray_theory.specs.Sizes.{quotient-below, first-pos}
 use Rattle.gray_theory.specs.Bools.{impossible}
 

@@ -2,15 +2,16 @@
 -- accepted.
 use Prim.Native.Nat.{ℕ, _^_, _≤_, _<_}
 use native.Mathlib.Omega.{arith}
-use mathlib.Core.Path.{_≡_, refl, sym, ap, _∙_}
+use mathlib.Core.Path.{_≡_, refl, sym, ap, ap₂, _∙_}
 use mathlib.Core.Bool.{Bool, true, false, not}
 use mathlib.Core.List.{List, _++_}
 use borrow.Author.Tests.{eqb-false, ltb-false, not-false, ne-eqb, le-ltb}
 use lib.Dec.{eqb, ltb}
 use lib.ListN.{length, drop, length-reverse}
-use Rattle.gray_theory.specs.Answers.{Answer, given, refused, refusing, isGiven, byteCount, outputAfter, Wrote}
-use Rattle.gray_theory.specs.Radices.{digits, size, allFrom, wrongCount, wrongRadix, tooMany, ofRadices}
-use Rattle.gray_theory.specs.Calls.{sizeCall}
+use Rattle.gray_theory.specs.Answers.{Answer, given, refused, refusing, numberOf, isGiven, byteCount, outputAfter, Wrote}
+use Rattle.gray_theory.specs.Radices.{digits, size, allFrom, wrongCount, wrongRadix, tooMany, ofRadices, Limits}
+use Rattle.gray_theory.specs.Capacities.{wrongCapacity, ofSurvey, Openable}
+use Rattle.gray_theory.specs.Calls.{sizeCall, surveyCall}
 use Rattle.gray_theory.specs.Bools.{impossible, neither}
 use Rattle.gray_theory.specs.Reversals.{allFrom-reverse, size-reverse, ofRadices-reverse}
 use Rattle.gray_theory.specs.Faults.{Fault, Fault.count, Fault.radix, Fault.many, Fault.none, fault, decided, lowest-fault-is-given}
@@ -58,13 +59,6 @@ no-fault (none e f g) rest a p = record { no-count = e; no-radix = f; no-many = 
 pub faultless : {A : Type 0} (ms : List ℕ) (rest : Answer A) (a : A) → ofRadices ms rest ≡ given a → Faultless ms rest a
 faultless ms rest a e = no-fault (fault ms) rest a (sym (lowest-fault-is-given ms (fault ms) rest) ∙ e)
 
--- document 01, "Limits": what holds of radices that pass refusals 2, 3 and 4
-pub record Limits (ms : List ℕ) : Type 0 where
-  pub some : 1 ≤ length ms
-  pub most : length ms ≤ 48
-  pub one : allFrom 1 ms ≡ true
-  pub limit : size ms ≤ 2 ^ 62
-
 module _ {A : Type 0} (ms : List ℕ) (rest : Answer A) where
   -- a call gives a value only if its radices are within the limits and the checks after theirs give it
   pub within-limits : (a : A) → ofRadices ms rest ≡ given a → Limits ms × (rest ≡ given a)
@@ -86,6 +80,27 @@ module _ {A : Type 0} (ms : List ℕ) (rest : Answer A) where
       let some = l .some in
       rw
       (ne-eqb (length ms) 0 (λ z. omega arith), le-ltb 48 (length ms) (l .most), l .one, le-ltb (2 ^ 62) (size ms) (l .limit))
+
+-- ---- the same with a capacity
+pub right-capacity : (c : ℕ) → wrongCapacity c ≡ false → (1 ≤ c) × (c ≤ 32)
+right-capacity c e =
+    let places = neither (eqb c 0) (ltb 32 c) e in
+    let no-place = eqb-false c 0 (places .0) in
+    (omega arith, ltb-false 32 c (places .1))
+
+module _ {A : Type 0} (ms : List ℕ) (c : ℕ) (rest : Answer A) where
+  -- a call gives a value only if its survey and capacity are within the limits and the checks after theirs give it
+  pub within-openable : (a : A) → ofSurvey ms c rest ≡ given a → Openable ms c × (rest ≡ given a)
+  within-openable a e =
+      let (limits, value) = within-limits ms (refusing 5 (wrongCapacity c) rest) a e in
+      let (right, given-then) = passed 5 (wrongCapacity c) rest a value in
+      let bounds = right-capacity c right in
+      (record { survey = limits; place = bounds .0; capacity = bounds .1 }, given-then)
+
+  pub openable-passes : Openable ms c → ofSurvey ms c rest ≡ rest
+  openable-passes o =
+      let b = o .place in
+      limits-pass ms (refusing 5 (wrongCapacity c) rest) (o .survey) ∙ rw (ne-eqb c 0 (λ z. omega arith), le-ltb 32 c (o .capacity))
 
 -- what holds of accepted radices
 pub record Accepted (l : List ℕ) (n : ℕ) : Type 0 where
@@ -117,6 +132,45 @@ unfolding sizeCall
 radices-accepted l n rest e =
     let p = faultless (digits l) (given (size (digits l))) n e in
     rw (p .no-count, p .no-radix, p .no-many)
+
+-- a survey and a capacity whose radices are accepted
+module _ (l : List ℕ) (c n : ℕ) (accept : sizeCall l ≡ given n) where
+  survey-tested : (wrong : Bool) → wrongCapacity c ≡ wrong → refusing 5 wrong (given n) ≡ surveyCall l c
+  unfolding surveyCall
+  survey-tested wrong f =
+      sym (radices-accepted l n _ accept ∙ ap₂ (λ b k. refusing 5 b (given k)) f (sym (accepted l n accept .whole)))
+
+  pub capacity-refused : wrongCapacity c ≡ true → refused 5 ≡ surveyCall l c
+  capacity-refused = survey-tested true
+
+  pub capacity-accepted : wrongCapacity c ≡ false → given n ≡ surveyCall l c
+  capacity-accepted = survey-tested false
+
+-- a check that refuses does so whatever comes after it
+pub still-refused : {A B : Type 0} (k : ℕ) (wrong : Bool) (r : Answer A) (s : Answer B) (x : ℕ)
+    → (r ≡ refused x → s ≡ refused x)
+    → refusing k wrong r ≡ refused x
+    → refusing k wrong s ≡ refused x
+still-refused k true r s x later e = ap (λ a. refused (numberOf a)) e
+still-refused k false r s x later e = later e
+
+module _ (l : List ℕ) (c : ℕ) where
+  -- a survey is refused alike whatever is asked of it
+  pub survey-refused-alike : {A : Type 0} (rest : Answer A) (x : ℕ) → surveyCall l c ≡ refused x → ofSurvey (digits l) c rest ≡ refused x
+  unfolding surveyCall
+  survey-refused-alike rest x =
+      let ms = digits l in
+      still-refused 2 (wrongCount ms) _ _ x
+      (still-refused 3 (wrongRadix ms) _ _ x
+      (still-refused 4 (tooMany ms) _ _ x
+      (still-refused 5 (wrongCapacity c) (given (size ms)) rest x (λ e. impossible (cc)))))
+
+  -- and one that is accepted is within the limits
+  pub survey-call-given : (n : ℕ) → surveyCall l c ≡ given n → Openable (digits l) c × (n ≡ size (digits l))
+  unfolding surveyCall
+  survey-call-given n e =
+      let (opens, value) = within-openable (digits l) c (given (size (digits l))) n e in
+      (opens, sym (given-same (size (digits l)) n value))
 
 -- a call that gives a value has accepted its radices
 pub radices-passed : {A : Type 0} (l : List ℕ) (rest : Answer A) (x : A)

@@ -14,7 +14,8 @@ use lib.ListN.{length, take, getD}
 use Rattle.gray_theory.specs.Radices.{size, allFrom}
 use Rattle.gray_theory.specs.Words.{even, member, reflect}
 use Rattle.gray_theory.specs.Changes.{later, difference, change, Moves, Moves.up, Moves.down, Moves.next, ruler, descends, OneApart}
-use Rattle.gray_theory.specs.Members.{wordAt, member-is-wordAt, length-wordAt}
+use Rattle.gray_theory.specs.Indexed.{wordAt}
+use Rattle.gray_theory.specs.Members.{member-is-wordAt, length-wordAt}
 use Rattle.gray_theory.specs.Sizes.{quotient-below, first-pos, size-pos, allFrom-take}
 use Rattle.gray_theory.specs.Increments.{Increment, Increment.no-carry, Increment.carry, increment, even-suc}
 

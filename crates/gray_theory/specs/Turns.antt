@@ -14,18 +14,13 @@ use Rattle.gray_theory.specs.Radices.{size, allFrom}
 use Rattle.gray_theory.specs.Words.{even, reflect}
 use Rattle.gray_theory.specs.Changes.{Moves, Moves.up, Moves.down, Moves.next, ruler, descends}
 use Rattle.gray_theory.specs.Directions.{movedFrom, turnedAt, wordMoved, downsMoved, digitInRange}
-use Rattle.gray_theory.specs.Members.{wordAt, length-wordAt}
+use Rattle.gray_theory.specs.Indexed.{wordAt, downsAt}
+use Rattle.gray_theory.specs.Members.{length-wordAt}
 use Rattle.gray_theory.specs.Rulers.{ruler-carry, ruler-no-carry, descends-carry, descends-no-carry, wordAt-moves, moves-within}
 use Rattle.gray_theory.specs.Sizes.{quotient-below}
 use Rattle.gray_theory.specs.Increments.{Increment, Increment.no-carry, Increment.carry, increment, even-suc}
 use Rattle.gray_theory.specs.DigitRanges.{DigitRange, says-digit}
 use Rattle.gray_theory.specs.Unlocked.{Lock, Lock.free, Lock.locked, lock}
-
--- digit 1 goes down where (r + 1) / m is odd, which turns it at its ends; a locked one stays up; the slower digits have the
--- directions of rank r / m
-unfoldable pub downsAt : List ℕ → ℕ → List Bool
-downsAt [] r = []
-downsAt (m ∷ ms) r = (leb 2 m && not (even (suc r / m))) ∷ downsAt ms (r / m)
 
 pub length-downsAt : (ms : List ℕ) (r : ℕ) → length (downsAt ms r) ≡ length ms
 unfolding downsAt

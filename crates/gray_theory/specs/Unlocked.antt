@@ -21,7 +21,8 @@ use Rattle.gray_theory.specs.Sizes.{radix-least}
 use Rattle.gray_theory.specs.DigitRanges.{allBelow-each, each-allBelow, allBelow-same}
 use Rattle.gray_theory.specs.Words.{even, reflect}
 use Rattle.gray_theory.specs.Changes.{ruler, descends}
-use Rattle.gray_theory.specs.Members.{wordAt, length-wordAt}
+use Rattle.gray_theory.specs.Indexed.{wordAt}
+use Rattle.gray_theory.specs.Members.{length-wordAt}
 use Rattle.gray_theory.specs.Rulers.{ruler-carry, ruler-no-carry, ruler-pos, descends-carry, descends-no-carry}
 
 -- ---- one digit: it moves, or its radix is 1

@@ -9,9 +9,10 @@ use Rattle.gray_theory.specs.Radices.{size, allFrom}
 use Rattle.gray_theory.specs.Changes.{change}
 use Rattle.gray_theory.specs.Directions.{movedFrom, turnedAt, wordMoved, downsMoved, digitInRange, digitsInRange}
 use Rattle.gray_theory.specs.Arrays.{filled}
-use Rattle.gray_theory.specs.Members.{wordAt, length-wordAt}
+use Rattle.gray_theory.specs.Indexed.{wordAt, downsAt}
+use Rattle.gray_theory.specs.Members.{length-wordAt}
 use Rattle.gray_theory.specs.Rulers.{change-is-ruler}
-use Rattle.gray_theory.specs.Turns.{downsAt, length-downsAt, wordAt-start, downsAt-start, walk-in-range, Advances}
+use Rattle.gray_theory.specs.Turns.{length-downsAt, wordAt-start, downsAt-start, walk-in-range, Advances}
 use Rattle.gray_theory.specs.DigitRanges.{each-allBelow}
 use Rattle.gray_theory.specs.Filled.{take-filled, getD-filled, set-filled, filled-replicate}
 

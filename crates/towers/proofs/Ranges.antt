@@ -21,7 +21,8 @@ use Rattle.gray_theory.specs.Calls.{sizeCall}
 use Rattle.gray_theory.specs.Engines.{refusedWith}
 use Rattle.gray_theory.specs.DigitRanges.{allBelow-same}
 use Rattle.gray_theory.specs.Filled.{take-filled, length-filled, digit-array}
-use Rattle.gray_theory.specs.Refusals.{Limits, within-limits, limits-pass, accepted, given-unless}
+use Rattle.gray_theory.specs.Radices.{Limits}
+use Rattle.gray_theory.specs.Refusals.{within-limits, limits-pass, accepted, given-unless}
 use Rattle.gray_theory.specs.Refusals.{radices-accepted, survey-refused, survey-accepted}
 use Rattle.gray_theory.specs.Sizes.{radix-two}
 use Rattle.towers_theory.specs.States.{Towers, common, wrongCounts, openCheck, survey, disks}

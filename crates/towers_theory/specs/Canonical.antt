@@ -15,7 +15,8 @@ use Rattle.gray_theory.specs.Unlocked.{unlocked-two, unlocked-most, movingDigit
 use Rattle.gray_theory.specs.Words.{even}
 use Rattle.gray_theory.specs.Arrays.{filled}
 use Rattle.gray_theory.specs.DigitRanges.{allBelow-each}
-use Rattle.gray_theory.specs.Members.{wordAt, length-wordAt}
+use Rattle.gray_theory.specs.Indexed.{wordAt}
+use Rattle.gray_theory.specs.Members.{length-wordAt}
 use Rattle.gray_theory.specs.Sizes.{radix-two}
 use Rattle.gray_theory.specs.WalkArrays.{wordArray, downArray, take-word-array, word-array-start, down-array-start, arrays-in-range}
 use Rattle.gray_theory.specs.Filled.{take-filled, getD-filled, filled-replicate}

@@ -12,7 +12,7 @@ use lib.ListN.{length, getD}
 use Rattle.gray_theory.specs.Locks.{unlocked, movingDigits}
 use Rattle.gray_theory.specs.Unlocked.{length-moving}
 use Rattle.gray_theory.specs.Words.{even}
-use Rattle.gray_theory.specs.Members.{wordAt}
+use Rattle.gray_theory.specs.Indexed.{wordAt}
 use Rattle.gray_theory.specs.Changes.{ruler}
 use Rattle.gray_theory.specs.Sizes.{radix-two}
 use Rattle.gray_theory.specs.Increments.{Increment.no-carry, Increment.carry, increment}

@@ -19,10 +19,10 @@ use Rattle.gray_theory.specs.Increments.{Increment.no-carry, Increment.carry, i
 use Rattle.gray_theory.specs.Rulers.{ruler-at-end}
 use Rattle.gray_theory.specs.Sizes.{allFrom-weaker}
 use Rattle.gray_theory.specs.Arrays.{filled}
-use Rattle.gray_theory.specs.Members.{wordAt}
+use Rattle.gray_theory.specs.Indexed.{wordAt, downsAt}
 use Rattle.gray_theory.specs.Filled.{getD-filled, set-filled}
 use Rattle.gray_theory.specs.Directions.{movedFrom}
-use Rattle.gray_theory.specs.Turns.{downsAt, Advances, walk-advances}
+use Rattle.gray_theory.specs.Turns.{Advances, walk-advances}
 use Rattle.gray_theory.specs.WalkArrays.{word-array-moved, down-array-moved, change-named}
 use Rattle.gray_theory.specs.Engines.{moved, ended}
 use Rattle.towers_theory.specs.States.{Towers, allOdd, common, survey}

@@ -9,7 +9,8 @@ use Rattle.gray_theory.specs.Locks.{unlocked}
 use Rattle.gray_theory.specs.Answers.{Answer, given, refused, refusing, isGiven}
 use Rattle.gray_theory.specs.Bools.{impossible}
 use Rattle.gray_theory.specs.Radices.{digits}
-use Rattle.gray_theory.specs.Refusals.{Limits, within-limits, limits-pass, passed}
+use Rattle.gray_theory.specs.Radices.{Limits}
+use Rattle.gray_theory.specs.Refusals.{within-limits, limits-pass, passed}
 use Rattle.towers_theory.specs.States.{Towers, allOdd, allEvenAndEqual, wrongCounts, openCheck}
 use Rattle.towers_theory.specs.Calls.{fresh, openWith, openOf}
 

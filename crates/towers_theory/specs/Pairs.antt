@@ -11,7 +11,7 @@ use lib.Dec.{eqb, leb}
 use lib.ListN.{length, getD}
 use Rattle.gray_theory.specs.Radices.{allFrom}
 use Rattle.gray_theory.specs.Words.{even, reflect}
-use Rattle.gray_theory.specs.Members.{wordAt}
+use Rattle.gray_theory.specs.Indexed.{wordAt}
 use Rattle.gray_theory.specs.Changes.{ruler}
 use Rattle.gray_theory.specs.Increments.{Increment.no-carry, Increment.carry, increment}
 use Rattle.gray_theory.specs.Rulers.{ruler-carry, ruler-no-carry, ruler-pos}

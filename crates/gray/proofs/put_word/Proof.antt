@@ -10,7 +10,7 @@ use lib.ListN.{length, take, drop, length-set}
 use lib.Seq.{take-length}
 use Rattle.gray_theory.specs.Radices.{digits, bytes}
 use Rattle.gray_theory.specs.Words.{reflect}
-use Rattle.gray_theory.specs.Members.{wordAt}
+use Rattle.gray_theory.specs.Indexed.{wordAt}
 use Rattle.gray.specs.Stages.{putWord}
 use Rattle.gray_theory.specs.Ranks.{reflect-below}
 use Rattle.gray_theory.specs.Digits.{radix-from}

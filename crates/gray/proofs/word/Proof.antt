@@ -3,7 +3,7 @@
 use mathlib.Core.Path.{_≡_, sym, ap, _∙_}
 use Rattle.gray_theory.specs.Answers.{given}
 use Rattle.gray_theory.specs.Radices.{digits, bytes}
-use Rattle.gray_theory.specs.Members.{wordAt}
+use Rattle.gray_theory.specs.Indexed.{wordAt}
 use Rattle.gray_theory.specs.Calls.{sizeCall, wordCall}
 use Rattle.gray.specs.Enums.{countedAs}
 use Rattle.gray_theory.specs.Refusals.{accepted, wrote-nothing, wrote-bytes}

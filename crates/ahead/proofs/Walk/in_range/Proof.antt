@@ -13,7 +13,7 @@ use Rattle.gray_theory.specs.Calls.{sizeCall}
 use Rattle.gray_theory.specs.Directions.{allBelow}
 use Rattle.gray.specs.Enums.{countedAs}
 use Rattle.gray_theory.specs.Refusals.{survey-refused, survey-one, survey-size}
-use Rattle.gray_theory.specs.Capacities.{right-capacity}
+use Rattle.gray_theory.specs.Refusals.{right-capacity}
 use Rattle.ahead_theory.specs.States.{survey}
 use Rattle.ahead_theory.specs.InRange.{Arrays}
 use Rattle.ahead.specs.Structs.{walkAs}

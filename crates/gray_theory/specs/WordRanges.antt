@@ -1,0 +1,173 @@
+-- What both engines keep: its range part by part, that a move keeps it, and its value at each rank of the walk.
+use Prim.Native.Nat.{ℕ, suc, _-_, _≤_, _<_}
+use native.Mathlib.Omega.{arith}
+use mathlib.Core.Path.{_≡_, sym, ap, _∙_}
+use mathlib.Core.Bool.{true, false, _&&_, and-eq-true-iff}
+use mathlib.Core.List.{List}
+use borrow.Author.Tests.{le-leb, leb-true}
+use lib.Dec.{leb}
+use lib.ListN.{length, getD, length-set}
+use lib.Seq.{length-take-le, getD-take}
+use Rattle.gray_theory.specs.Answers.{Answer, given, isGiven}
+use Rattle.gray_theory.specs.Arrays.{filled}
+use Rattle.gray_theory.specs.Radices.{size, allFrom, Limits}
+use Rattle.gray_theory.specs.Changes.{change}
+use Rattle.gray_theory.specs.Words.{member}
+use Rattle.gray_theory.specs.Indexed.{wordAt}
+use Rattle.gray_theory.specs.Locks.{movingDigits, movingInRange}
+use Rattle.gray_theory.specs.Directions.{digitsInRange}
+use Rattle.gray_theory.specs.DirectedWords.{DirectedWord, surveyIn, movingIn, settingIn, freshWord, wordInRange, digitMoved, changeBy}
+use Rattle.gray_theory.specs.Members.{member-is-wordAt}
+use Rattle.gray_theory.specs.Sizes.{radix-two}
+use Rattle.gray_theory.specs.Filled.{take-filled}
+use Rattle.gray_theory.specs.DigitRanges.{digits-move-in-range}
+use Rattle.gray_theory.specs.Unlocked.{MovingSays, moving-says, says-moving, moving-stored, movingDigit, unlocked-two}
+use Rattle.gray_theory.specs.Turns.{Advances}
+use Rattle.gray_theory.specs.WalkArrays.{wordArray, downArray, take-word-array, word-array-start, down-array-start, arrays-in-range, word-array-moved, down-array-moved, change-named}
+
+-- the lengths that the arrays have
+pub record Rooms (d : DirectedWord) : Type 0 where
+  pub radices : length (d .radices) ≡ 48
+  pub moving : length (d .moving .digits) ≡ 48
+  pub word : length (d .word) ≡ 48
+  pub downs : length (d .downs) ≡ 48
+
+-- ---- the range rule, part by part
+pub record WordRange (check : List ℕ → Answer Unit) (d : DirectedWord) : Type 0 where
+  pub most : d .n ≤ 48
+  pub opens : isGiven (check (surveyIn d)) ≡ true
+  pub notches : digitsInRange (d .n) (d .radices) (d .word) (d .downs) ≡ true
+  pub moving : movingInRange (surveyIn d) (d .moving) ≡ true
+
+module _ (check : List ℕ → Answer Unit) (d : DirectedWord) where
+  pub says-word : WordRange check d → wordInRange check d ≡ true
+  unfolding wordInRange
+  says-word r = rw (le-leb (d .n) 48 (r .most), r .opens, r .notches, r .moving)
+
+  pub word-says : wordInRange check d ≡ true → WordRange check d
+  unfolding wordInRange
+  word-says e =
+      let most = leb (d .n) 48 in
+      let opens = isGiven (check (surveyIn d)) in
+      let notches = digitsInRange (d .n) (d .radices) (d .word) (d .downs) in
+      let (three, v) = and-eq-true-iff (most && opens && notches) (movingInRange (surveyIn d) (d .moving)) .0 e in
+      let (two, t) = and-eq-true-iff (most && opens) notches .0 three in
+      let (one, o) = and-eq-true-iff most opens .0 two in
+      record { most = leb-true (d .n) 48 one; opens = o; notches = t; moving = v }
+
+  module _ (r : WordRange check d) where
+    pub ranged-moving : MovingSays (surveyIn d) (d .moving)
+    ranged-moving = moving-says (surveyIn d) (d .moving) (r .moving)
+
+    pub survey-long : length (d .radices) ≡ 48 → length (surveyIn d) ≡ d .n
+    survey-long room = let most = r .most in length-take-le (d .n) (d .radices) (omega arith)
+
+-- ---- the digit that moves at index i of those: its number and index among all digits, and its radix
+pub record DigitThere (d : DirectedWord) (i : ℕ) : Type 0 where
+  pub index : ℕ
+  pub number : getD (d .moving .digits) i 0 ≡ suc index
+  pub within : index < d .n
+  pub radix : getD (d .radices) index 0 ≡ getD (movingIn d) i 0
+  pub two : 2 ≤ getD (d .radices) index 0
+
+pub digit-there : (d : DirectedWord)
+    → length (d .radices) ≡ 48
+    → d .n ≤ 48
+    → allFrom 1 (surveyIn d) ≡ true
+    → MovingSays (surveyIn d) (d .moving)
+    → (i : ℕ)
+    → i < d .moving .count
+    → DigitThere d i
+digit-there d long most one says i h =
+    let many = says .count in
+    let n = length-take-le (d .n) (d .radices) (omega arith) in
+    let m = movingDigit (surveyIn d) one i (omega arith) in
+    let inside = m .within in
+    let least = radix-two (movingIn d) i (unlocked-two (surveyIn d)) (omega arith) in
+    let same : getD (d .radices) (m .index) 0 ≡ getD (movingIn d) i 0 =
+    sym (getD-take (d .n) (d .radices) (m .index) 0 (omega arith)) ∙ m .radix in
+    record {
+      index = m .index;
+      number = says .digits i (omega arith) ∙ m .number;
+      within = omega arith;
+      radix = same;
+      two = omega arith;
+    }
+
+-- ---- a move keeps the range and the arrays' lengths
+pub move-keeps-range : (check : List ℕ → Answer Unit) (d : DirectedWord) (k : ℕ)
+    → Rooms d
+    → 1 ≤ k
+    → k ≤ d .n
+    → 2 ≤ getD (d .radices) (k - 1) 0
+    → wordInRange check d ≡ true
+    → wordInRange check (digitMoved d k) ≡ true
+unfolding digitMoved
+move-keeps-range check d k rooms low high two e =
+    let r = word-says check d e in
+    let most = r .most in
+    let word = rooms .word in
+    let downs = rooms .downs in
+    says-word check (digitMoved d k)
+    (record {
+      most = r .most;
+      opens = r .opens;
+      notches =
+          digits-move-in-range (d .n) (d .radices) (d .word) (d .downs) (k - 1) (omega arith) (omega arith) (omega arith) two
+          (r .notches);
+      moving = r .moving;
+    })
+
+pub move-keeps-rooms : (d : DirectedWord) (k : ℕ) → Rooms d → Rooms (digitMoved d k)
+unfolding digitMoved
+move-keeps-rooms d k a =
+    record { radices = a .radices; moving = a .moving; word = simp length-set (a .word); downs = simp length-set (a .downs) }
+
+-- ---- along the walk: what is kept at rank r
+abbrev pub directedAt : List ℕ → ℕ → DirectedWord
+directedAt ms r = record {
+  radices = filled 48 0 ms;
+  n = length ms;
+  moving = movingDigits ms;
+  word = wordArray ms r;
+  downs = downArray ms r;
+}
+
+module _ (ms : List ℕ) where
+  pub survey-at : (r : ℕ) → surveyIn (directedAt ms r) ≡ ms
+  survey-at r = take-filled 48 0 ms
+
+  pub setting-at : (r : ℕ) → settingIn (directedAt ms r) ≡ wordAt ms r
+  setting-at r = take-word-array ms r
+
+  pub member-at : (r : ℕ) → r < size ms → settingIn (directedAt ms r) ≡ member ms r
+  member-at r below = setting-at r ∙ sym (member-is-wordAt ms r below)
+
+  -- rank 0 is the start
+  pub fresh-at : Limits ms → freshWord ms ≡ directedAt ms 0
+  fresh-at l = cc (word-array-start ms (l .most), down-array-start ms (l .one) (l .most))
+
+  -- every rank is in range
+  pub directed-in-range : (check : List ℕ → Answer Unit) → Limits ms → check ms ≡ given tt → (r : ℕ) → wordInRange check (directedAt ms r) ≡ true
+  directed-in-range check l accepts r =
+      let same = survey-at r in
+      says-word check (directedAt ms r)
+      (record {
+        most = l .most;
+        opens = rw same (ap isGiven accepts);
+        notches = arrays-in-range ms (l .one) r;
+        moving = rw same (says-moving ms (movingDigits ms) (moving-stored ms));
+      })
+
+  -- the digit that the list moves from rank r leads to the next, and the change is the list's
+  module _ (r i : ℕ) (a : Advances ms r i) where
+    pub directed-moves : digitMoved (directedAt ms r) (suc i) ≡ directedAt ms (suc r)
+    unfolding digitMoved
+    directed-moves =
+        let index : suc i - 1 ≡ i = omega arith in
+        rw index (cc (word-array-moved ms r i a, down-array-moved ms r i a))
+
+    pub directed-change : suc r < size ms → changeBy (directedAt ms r) (suc i) ≡ change ms (suc r)
+    directed-change below =
+        let index : suc i - 1 ≡ i = omega arith in
+        rw index (sym (change-named ms r i a below))
