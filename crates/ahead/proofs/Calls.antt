@@ -3,13 +3,13 @@ use Prim.Native.Nat.{ℕ, _+_, _-_, _^_, _≤_, _<_}
 use native.Mathlib.Decide.{decLt, ℕ-discrete}
 use native.Mathlib.Omega.{arith}
 use mathlib.Core.Path.{_≡_, refl, sym, ap, ap₂, subst, _∙_}
-use mathlib.Core.Bool.{Bool, true, false, cond, _&&_, _||_, and-eq-true-iff, not}
+use mathlib.Core.Bool.{Bool, true, false, cond, _&&_, _||_, and-eq-true-iff}
 use mathlib.Core.List.{List, [], _++_}
 use borrow.Author.Tests.{lt-ltb, le-ltb, le-leb, eq-eqb, ne-eqb, ltb-true, eqb-true}
 use lib.Dec.{eqb, ltb}
 use lib.ListN.{length, getD, take, drop, replicate, length-replicate, length-drop, getD-replicate, List·getD-eq-default}
 use lib.Seq.{getD-take, getD-drop, length-take-le, getD-append-add}
-use Rattle.gray_theory.specs.Answers.{Answer, given, refused}
+use Rattle.gray_theory.specs.Answers.{Answer, given}
 use Rattle.gray_theory.specs.Arrays.{filled}
 use Rattle.gray_theory.specs.Bools.{impossible}
 use Rattle.gray_theory.specs.Calls.{sizeCall}
@@ -17,17 +17,17 @@ use Rattle.gray_theory.specs.Filled.{getD-filled, length-filled}
 use Rattle.gray_theory.specs.Places.{placed, placed-none, placed-append, length-placed}
 use Rattle.gray_theory.specs.Radices.{size}
 use Rattle.gray_theory.specs.Refusals.{survey-refused, survey-size}
-use Rattle.gray_theory.specs.Engines.{Event, ended, Handed, after, refusedWith}
+use Rattle.gray_theory.specs.Engines.{Event, Handed, after, refusedWith}
 use Rattle.gray_theory.specs.RunCalls.{Stop, nothing, end, refusal, Outcome, Running}
 use Rattle.gray_theory.specs.SingleCalls.{no-moves-change-nothing}
 use Rattle.gray_theory.specs.RunLaws.{Moved, moved-none, all-made, ends-there, refused-there, run-made-by}
 use Rattle.gray.specs.Enums.{countedAs}
 use Rattle.gray.specs.declared.Counted.{Counted}
 use Rattle.gray.specs.declared.Counted.the-variants.{Size, Refused}
-use Rattle.ahead_theory.specs.States.{Walk, survey, movingRadices, inRange}
+use Rattle.ahead_theory.specs.States.{Walk, survey, movingRadices, inRange, Arrays}
 use Rattle.ahead_theory.specs.Calls.{stepOf, runOf}
-use Rattle.ahead_theory.specs.Runs.{state}
-use Rattle.ahead_theory.specs.InRange.{Arrays, range-says, ranged-moving, survey-openable, moving-radices-most, producer-says}
+use Rattle.ahead_theory.specs.Events.{state}
+use Rattle.ahead_theory.specs.InRange.{range-says, moving-known, survey-openable, moving-radices-most, producer-says}
 use Rattle.ahead_theory.specs.Kept.{past-the-end}
 use Rattle.ahead_theory.specs.Locals.{Fast, FastRan, fastRun, TopsOf, Stands}
 use Rattle.ahead_theory.specs.LocalCalls.{numbered}
@@ -115,7 +115,7 @@ record Made (w₀ : Walk) (done most : ℕ) (tops rest left bytes before after :
 
 module _
     (w₀ : Walk) (done most : ℕ) (tops rest left bytes entries : List ℕ) (at : Stage) (before : List ℕ)
-    (ok : Ready w₀ done most tops rest left bytes entries at before) (last c : ℕ) (last-is : last ≡ w₀ .moving .count + 1)
+    (ok : Ready w₀ done most tops rest left bytes entries at before) (last c : ℕ) (last-is : last ≡ w₀ .directed .moving .count + 1)
     (c-is : c ≡ w₀ .capacity)
   where
     -- what the stretch is asked for is a run's
@@ -267,7 +267,7 @@ module _ (w₀ : Walk) (limit : ℕ) (before : List ℕ) where
       let s = range-says w₀ (b .ranged) in
       let sound = survey-openable w₀ s in
       let range = producer-says (movingRadices w₀) (w₀ .capacity) (w₀ .producer) (s .ahead) in
-      let most = moving-radices-most w₀ s (a .radices) in
+      let most = moving-radices-most w₀ s (a .directed .radices) in
       let here = range .at in
       let held = range .held in
       let ql = a .queue in
@@ -369,8 +369,8 @@ module _ (w₀ : Walk) (limit : ℕ) (before : List ℕ) where
       unloadable =
           let (w, t) = unloads (s .here) in
           let r = range-says w₀ (s .ready .ranged) in
-          let n = ranged-moving w₀ r .count in
-          let few = moving-radices-most w₀ r (s .room .radices) in
+          let n = moving-known w₀ r .count in
+          let few = moving-radices-most w₀ r (s .room .directed .radices) in
           let m = s .ready .more in
           let z = small-size (s .ready) in
           let h = s .within in
@@ -385,7 +385,7 @@ module _ (w₀ : Walk) (limit : ℕ) (before : List ℕ) where
             numbers = numbered w₀ r (s .room);
             counted = n;
             few = omega arith;
-            most = r .most;
+            most = r .word .most;
             place-small = omega arith;
             tail-small = omega arith;
             small = omega arith;
@@ -429,7 +429,7 @@ module _ (w₀ : Walk) (limit : ℕ) (before : List ℕ) where
         nothing-stopped = eqb-true stop 0 (and-eq-true-iff (ltb done limit) (eqb stop 0) .0 goes .1)
 
         module _
-            (most : ℕ) (p : Part (limit - done) most) (last c : ℕ) (last-is : last ≡ w₀ .moving .count + 1) (c-is : c ≡ w₀ .capacity)
+            (most : ℕ) (p : Part (limit - done) most) (last c : ℕ) (last-is : last ≡ w₀ .directed .moving .count + 1) (c-is : c ≡ w₀ .capacity)
             (rest′ left′ bytes′ after′ : List ℕ) (r : Stretch)
             (says : stretchAs r rest′ left′ bytes′ after′ ≡ stretchBy last c most tops rest left bytes entries at done out)
           where
@@ -504,9 +504,9 @@ module _ (w₀ : Walk) (limit : ℕ) (before : List ℕ) where
             calls-fewer = let n = nothing-stopped in rw (eq-eqb stop 0 n) (fewer (made .halted))
 
 -- ---- the moves that are left
-module _ (w : Walk) (ranged : inRange w ≡ true) (k : ℕ) (same : k ≡ w .n) (o : Counted) (says : countedAs o ≡ sizeCall (take k (w .radices))) where
+module _ (w : Walk) (ranged : inRange w ≡ true) (k : ℕ) (same : k ≡ w .directed .n) (o : Counted) (says : countedAs o ≡ sizeCall (take k (w .directed .radices))) where
   size-says : sizeCall (survey w) ≡ countedAs o
-  size-says = ap (λ (j : ℕ). sizeCall (take j (w .radices))) (sym same) ∙ sym says
+  size-says = ap (λ (j : ℕ). sizeCall (take j (w .directed .radices))) (sym same) ∙ sym says
 
   pub room-left : (total : ℕ) → o ≡ Size total → (w .moves ≤ total) × Room w (total - w .moves)
   room-left total is =
@@ -538,11 +538,11 @@ calls-ready w t room limit out ranged going fits left cut =
           record { ranged = ranged; going = going; more = omega arith; fits = omega arith }
     ]
 
-pub least-first : (a b : ℕ) → a < b → a ≡ cond (ltb a b) a b
-least-first a b h = rw (lt-ltb a b h)
+pub min-first : (a b : ℕ) → a < b → a ≡ cond (ltb a b) a b
+min-first a b h = rw (lt-ltb a b h)
 
-pub least-second : (a b : ℕ) → b ≤ a → b ≡ cond (ltb a b) a b
-least-second a b h = rw (le-ltb a b h)
+pub min-second : (a b : ℕ) → b ≤ a → b ≡ cond (ltb a b) a b
+min-second a b h = rw (le-ltb a b h)
 
 -- ---- the call
 module _ (w : Walk) (t : ℕ) (before : List ℕ) where

@@ -1,10 +1,10 @@
 -- From a state to the arrays of a run, and back, over plain lists and numbers. Assumes nothing.
-use Prim.Native.Nat.{ℕ, suc, _+_, _-_, _≤_, _<_}
+use Prim.Native.Nat.{ℕ, _+_, _-_, _≤_, _<_}
 use native.Mathlib.Decide.{decLt, ℕ-discrete}
 use native.Mathlib.Omega.{arith}
 use mathlib.Core.Path.{_≡_, refl, sym, ap, subst, _∙_}
 use mathlib.Core.Bool.{Bool, true, false, cond}
-use mathlib.Core.Logic.{_⊎_, inl, inr, ⊎-elim}
+use mathlib.Core.Logic.{inl, inr, ⊎-elim}
 use mathlib.Core.List.{List, [], _∷_}
 use lib.ListN.{length, getD, set, length-set, List·getD-append}
 use lib.Seq.{getD-set-same, getD-set-other, ext-getD}
@@ -16,12 +16,12 @@ use Rattle.gray_theory.specs.Directions.{digitInRange}
 use Rattle.gray_theory.specs.DigitRanges.{allBelow-each, digit-says}
 use Rattle.gray_theory.specs.Sizes.{radix-two}
 use Rattle.gray_theory.specs.Unlocked.{unlocked-two}
-use Rattle.gray_theory.specs.Locks.{MovingDigits}
-use Rattle.ahead_theory.specs.States.{Producer, Walk, survey, movingRadices, places, inRange}
-use Rattle.ahead_theory.specs.InRange.{Arrays, Ranged, range-says, ranged-moving, moving-radices-most, producer-says, last-is-two}
-use Rattle.ahead_theory.specs.Locals.{Fast, TopsOf, ToGo, Notch, Notches, Numbered, Ahead, Stands}
+use Rattle.ahead_theory.specs.States.{Walk, survey, movingRadices, inRange, Arrays}
+use Rattle.ahead_theory.specs.InRange.{Ranged, range-says, moving-known, producer-says, last-is-two}
+use Rattle.ahead_theory.specs.Locals.{ToGo, Notch, Numbered}
 use Rattle.ahead_theory.specs.LocalCalls.{numbered}
 use Rattle.stretch.specs.declared.Stage.{Stage}
+use Rattle.ahead.proofs.Ranges.{ranged-known, moving-most}
 use Rattle.ahead.specs.Stretches.{Wide, Loadable, LoadedOne, Loaded, CounterFits, CounterBack, WordFits, Target, Pending, WordBack, Unloads, Unloadable}
 
 -- ---- the counter
@@ -88,7 +88,7 @@ module _ (count : ℕ) (numbers tops left bytes word₀ : List ℕ) (downs₀ : 
         word-long = length-set word (d - 1) v ∙ wl;
         downs-long = length-set downs (d - 1) down ∙ dl;
         pending = λ w★ d★ t p.
-            let at : d - 1 ≡ getD numbers i 0 - 1 = ap (λ x. x - 1) is-d in
+            let same : d - 1 ≡ getD numbers i 0 - 1 = ap (λ x. x - 1) is-d in
             record {
               each = λ x.
                   elim (ℕ-discrete x (d - 1)) [
@@ -98,13 +98,13 @@ module _ (count : ℕ) (numbers tops left bytes word₀ : List ℕ) (downs₀ : 
                           getD-set-same word (d - 1) v 0 (omega arith) ∙ is-v
                               ∙ ap (λ b. cond b (getD left (i + 1) 0) (getD tops (i + 1) 0 - getD left (i + 1) 0)) is-down
                               ∙ t .notch i less
-                              ∙ ap (λ j. getD w★ j 0) (sym at),
-                          getD-set-same downs (d - 1) down false (omega arith) ∙ is-down ∙ t .direction i less ∙ ap (λ j. getD d★ j false) (sym at),
+                              ∙ ap (λ j. getD w★ j 0) (sym same),
+                          getD-set-same downs (d - 1) down false (omega arith) ∙ is-down ∙ t .direction i less ∙ ap (λ j. getD d★ j false) (sym same),
                         ))
                     | no n ↦
                         ⊎-elim
                         (λ same. inl (getD-set-other word (d - 1) x v 0 n ∙ same .0, getD-set-other downs (d - 1) x down false n ∙ same .1))
-                        (λ still. inr (later w★ d★ x n at still))
+                        (λ still. inr (later w★ d★ x n same still))
                         (s .pending w★ d★ t p .each x)
                   ];
             };
@@ -113,9 +113,9 @@ module _ (count : ℕ) (numbers tops left bytes word₀ : List ℕ) (downs₀ : 
       later : (w★ : List ℕ) (d★ : List Bool) (x : ℕ) → (x ≡ d - 1 → ⊥) → d - 1 ≡ getD numbers i 0 - 1
           → ((k : ℕ) × (i ≤ k) × (k < count) × (x ≡ getD numbers k 0 - 1))
           → (k : ℕ) × (i + 1 ≤ k) × (k < count) × (x ≡ getD numbers k 0 - 1)
-      later w★ d★ x n at (k, low, high, is) =
+      later w★ d★ x n same (k, low, high, is) =
           elim (ℕ-discrete k i) [
-            | yes e ↦ absurd (n (is ∙ ap (λ j. getD numbers j 0 - 1) e ∙ sym at))
+            | yes e ↦ absurd (n (is ∙ ap (λ j. getD numbers j 0 - 1) e ∙ sym same))
             | no o ↦ (k, omega (arith, o), high, is)
           ]
 
@@ -168,29 +168,29 @@ to-go-by top a false h = omega arith
 
 -- the same of a state
 abbrev pub WalkLoadedTo : Walk → ℕ → List ℕ → List ℕ → List ℕ → List ℕ → Type 0
-WalkLoadedTo w i tops rest left bytes = LoadedTo (w .radices) (w .moving .digits) (w .word) (w .downs) (w .producer .counter) i tops rest left bytes
+WalkLoadedTo w i tops rest left bytes = LoadedTo (w .directed .radices) (w .directed .moving .digits) (w .directed .word) (w .directed .downs) (w .producer .counter) i tops rest left bytes
 
 module _ (w : Walk) (ranged : inRange w ≡ true) (a : Arrays w) where
   s : Ranged w
   s = range-says w ranged
 
-  pub counted : w .moving .count ≡ length (movingRadices w)
-  counted = ranged-moving w s .count
+  pub counted : w .directed .moving .count ≡ length (movingRadices w)
+  counted = moving-known w s .count
 
-  pub few : w .moving .count ≤ 48
-  few = let n = counted in let m = moving-radices-most w s (a .radices) in omega arith
+  pub few : w .directed .moving .count ≤ 48
+  few = moving-most (w .directed) (a .directed) (ranged-known w s)
 
-  numbers : Numbered (w .moving .digits) (w .radices) (movingRadices w) (w .n)
+  numbers : Numbered (w .directed .moving .digits) (w .directed .radices) (movingRadices w) (w .directed .n)
   numbers = numbered w s a
 
-  module _ (i : ℕ) (inside : i < w .moving .count) where
+  module _ (i : ℕ) (inside : i < w .directed .moving .count) where
     abbrev d : ℕ
-    d = getD (w .moving .digits) i 0
+    d = getD (w .directed .moving .digits) i 0
 
     pub number-fits : (1 ≤ d) × (d ≤ 48)
     number-fits =
         let n = counted in
-        let most = s .most in
+        let most = s .word .most in
         let low = numbers .from-one i (omega arith) in
         let high = numbers .within i (omega arith) in
         (low, omega arith)
@@ -198,7 +198,7 @@ module _ (w : Walk) (ranged : inRange w ≡ true) (a : Arrays w) where
     -- the radix, and the counts and notches below it
     pub loadable : (e : ℕ)
         → e ≡ d
-        → Loadable (i + 1) (getD (w .radices) (e - 1) 0) (getD (w .producer .counter) i 0) (getD (w .word) (e - 1) 0)
+        → Loadable (i + 1) (getD (w .directed .radices) (e - 1) 0) (getD (w .producer .counter) i 0) (getD (w .directed .word) (e - 1) 0)
     loadable e is =
         let n = counted in
         let f = few in
@@ -208,18 +208,18 @@ module _ (w : Walk) (ranged : inRange w ≡ true) (a : Arrays w) where
         let (low, high) = number-fits in
         let hn = numbers .within i (omega arith) in
         let r = numbers .radix i (omega arith) in
-        let notch = digit-says (getD (w .radices) (d - 1) 0) (getD (w .word) (d - 1) 0) (getD (w .downs) (d - 1) false)
-        (allBelow-each (w .n) (λ j. digitInRange (getD (w .radices) j 0) (getD (w .word) j 0) (getD (w .downs) j false)) (s .notches) (d - 1) (omega arith)) in
+        let notch = digit-says (getD (w .directed .radices) (d - 1) 0) (getD (w .directed .word) (d - 1) 0) (getD (w .directed .downs) (d - 1) false)
+        (allBelow-each (w .directed .n) (λ j. digitInRange (getD (w .directed .radices) j 0) (getD (w .directed .word) j 0) (getD (w .directed .downs) j false)) (s .word .notches) (d - 1) (omega arith)) in
         let below = notch .below in
-        let same : getD (w .word) (e - 1) 0 ≡ getD (w .word) (d - 1) 0 = ap (λ x. getD (w .word) (x - 1) 0) is in
-        let m : getD (w .radices) (e - 1) 0 ≡ getD (w .radices) (d - 1) 0 = ap (λ x. getD (w .radices) (x - 1) 0) is in
+        let same : getD (w .directed .word) (e - 1) 0 ≡ getD (w .directed .word) (d - 1) 0 = ap (λ x. getD (w .directed .word) (x - 1) 0) is in
+        let m : getD (w .directed .radices) (e - 1) 0 ≡ getD (w .directed .radices) (d - 1) 0 = ap (λ x. getD (w .directed .radices) (x - 1) 0) is in
         record { inside = omega arith; some = omega arith; count = omega arith; notch = omega arith }
 
     module _
         (tops rest left bytes tops′ rest′ left′ bytes′ : List ℕ) (e : ℕ) (is : e ≡ d)
         (t : WalkLoadedTo w i tops rest left bytes)
-        (one : LoadedOne (i + 1) (getD (w .radices) (e - 1) 0) (getD (w .producer .counter) i 0) d (getD (w .word) (e - 1) 0)
-        (getD (w .downs) (e - 1) false)
+        (one : LoadedOne (i + 1) (getD (w .directed .radices) (e - 1) 0) (getD (w .producer .counter) i 0) d (getD (w .directed .word) (e - 1) 0)
+        (getD (w .directed .downs) (e - 1) false)
         tops
         rest
         left
@@ -230,16 +230,16 @@ module _ (w : Walk) (ranged : inRange w ≡ true) (a : Arrays w) where
         bytes′)
       where
         abbrev m : ℕ
-        m = getD (w .radices) (e - 1) 0
+        m = getD (w .directed .radices) (e - 1) 0
 
         abbrev b : ℕ
         b = getD (w .producer .counter) i 0
 
         abbrev u : ℕ
-        u = cond (getD (w .downs) (e - 1) false) (getD (w .word) (e - 1) 0) (m - 1 - getD (w .word) (e - 1) 0)
+        u = cond (getD (w .directed .downs) (e - 1) false) (getD (w .directed .word) (e - 1) 0) (m - 1 - getD (w .directed .word) (e - 1) 0)
 
         abbrev v : ℕ
-        v = moveByte d (getD (w .downs) (e - 1) false)
+        v = moveByte d (getD (w .directed .downs) (e - 1) false)
 
         wide-now : Wide tops′ rest′ left′ bytes′
         wide-now =
@@ -289,17 +289,17 @@ module _ (w : Walk) (ranged : inRange w ≡ true) (a : Arrays w) where
           bytes-kept : getD bytes′ (x + 1) 0 ≡ getD bytes (x + 1) 0
           bytes-kept = ap (λ g. getD g (x + 1) 0) (one .bytes-is) ∙ getD-set-other bytes (i + 1) (x + 1) v 0 apart
 
-        notch-now : NotchAt (w .moving .digits) (w .word) (w .downs) tops′ left′ bytes′ i
+        notch-now : NotchAt (w .directed .moving .digits) (w .directed .word) (w .directed .downs) tops′ left′ bytes′ i
         notch-now =
             let ok = loadable e is in
             let below = ok .notch in
             subst
-            (λ j. Notch (getD tops′ (i + 1) 0) (getD left′ (i + 1) 0) (getD bytes′ (i + 1) 0) d (getD (w .word) (j - 1) 0) (getD (w .downs) (j - 1) false))
+            (λ j. Notch (getD tops′ (i + 1) 0) (getD left′ (i + 1) 0) (getD bytes′ (i + 1) 0) d (getD (w .directed .word) (j - 1) 0) (getD (w .directed .downs) (j - 1) false))
             is
             (rw (top-now, left-now, bytes-now)
             (record {
               shows = refl;
-              to-go = to-go-by (m - 1) (getD (w .word) (e - 1) 0) (getD (w .downs) (e - 1) false) (omega arith);
+              to-go = to-go-by (m - 1) (getD (w .directed .word) (e - 1) 0) (getD (w .directed .downs) (e - 1) false) (omega arith);
             }))
 
         pub loaded-more : WalkLoadedTo w (i + 1) tops′ rest′ left′ bytes′
@@ -313,7 +313,7 @@ module _ (w : Walk) (ranged : inRange w ≡ true) (a : Arrays w) where
                     | yes q ↦
                         let now = top-now in
                         let some = ok .some in
-                        let same : m ≡ getD (w .radices) (d - 1) 0 = ap (λ y. getD (w .radices) (y - 1) 0) is in
+                        let same : m ≡ getD (w .directed .radices) (d - 1) 0 = ap (λ y. getD (w .directed .radices) (y - 1) 0) is in
                         rw q (omega arith)
                     | no o ↦ let k = top-kept x (λ z. o (omega arith)) in let old = t .top x (omega (arith, o)) in omega arith
                   ];
@@ -329,14 +329,14 @@ module _ (w : Walk) (ranged : inRange w ≡ true) (a : Arrays w) where
                   ];
               notch = λ x h.
                   elim (ℕ-discrete x i) [
-                    | yes q ↦ subst (λ j. NotchAt (w .moving .digits) (w .word) (w .downs) tops′ left′ bytes′ j) (sym q) notch-now
+                    | yes q ↦ subst (λ j. NotchAt (w .directed .moving .digits) (w .directed .word) (w .directed .downs) tops′ left′ bytes′ j) (sym q) notch-now
                     | no o ↦
                         let apart : x + 1 ≡ i + 1 → ⊥ = λ z. o (omega arith) in
                         rw (top-kept x apart, left-kept x apart, bytes-kept x apart) (t .notch x (omega (arith, o)))
                   ];
             }
 
-  pub counter-last : (k : ℕ) → k ≡ w .moving .count → getD (w .producer .counter) k 0 ≤ 1
+  pub counter-last : (k : ℕ) → k ≡ w .directed .moving .count → getD (w .producer .counter) k 0 ≤ 1
   counter-last k e =
       let n = counted in
       let b = producer-says (movingRadices w) (w .capacity) (w .producer) (s .ahead) .counts (length (movingRadices w)) (omega arith) in
@@ -344,7 +344,7 @@ module _ (w : Walk) (ranged : inRange w ≡ true) (a : Arrays w) where
       rw (e, n) (omega arith)
 
   -- the last place
-  module _ (k i : ℕ) (tops rest left bytes : List ℕ) (e : k ≡ w .moving .count) (all : k ≤ i) (t : WalkLoadedTo w i tops rest left bytes) where
+  module _ (k i : ℕ) (tops rest left bytes : List ℕ) (e : k ≡ w .directed .moving .count) (all : k ≤ i) (t : WalkLoadedTo w i tops rest left bytes) where
     abbrev last : ℕ
     last = 1 - getD (w .producer .counter) k 0
 
@@ -362,9 +362,9 @@ module _ (w : Walk) (ranged : inRange w ≡ true) (a : Arrays w) where
                 top = λ x less.
                     elim (ℕ-discrete x k) [
                       | yes q ↦
-                          let at : x ≡ length (movingRadices w) = omega arith in
+                          let last-place : x ≡ length (movingRadices w) = omega arith in
                           let z : x + 1 ≡ k + 1 = omega arith in
-                          rw z (rw at (rw (getD-set-same tops (k + 1) 1 0 (omega arith)) (sym (last-is-two (movingRadices w)))))
+                          rw z (rw last-place (rw (getD-set-same tops (k + 1) 1 0 (omega arith)) (sym (last-is-two (movingRadices w)))))
                       | no o ↦
                           let v = getD-set-other tops (k + 1) (x + 1) 1 0 (λ z. o (omega arith)) in
                           let p = List·getD-append (movingRadices w) (2 ∷ []) 0 x (omega (arith, o)) in
@@ -398,42 +398,6 @@ module _ (w : Walk) (ranged : inRange w ≡ true) (a : Arrays w) where
         }
 
 -- ---- unloading
-same-producer : (p : Producer) (counter : List ℕ) (place : ℕ) (queue : List ℕ) (queued steps : ℕ)
-    → counter ≡ p .counter
-    → place ≡ p .place
-    → queue ≡ p .queue
-    → queued ≡ p .queued
-    → steps ≡ p .steps
-    → record { counter = counter; place = place; queue = queue; queued = queued; steps = steps } ≡ p
-same-producer p counter place queue queued steps c pl q n s =
-    ap (λ x. record { counter = x; place = place; queue = queue; queued = queued; steps = steps }) c
-    ∙ ap (λ x. record { counter = p .counter; place = x; queue = queue; queued = queued; steps = steps }) pl
-    ∙ ap (λ x. record { counter = p .counter; place = p .place; queue = x; queued = queued; steps = steps }) q
-    ∙ ap (λ x. record { counter = p .counter; place = p .place; queue = p .queue; queued = x; steps = steps }) n
-    ∙ ap (λ x. record { counter = p .counter; place = p .place; queue = p .queue; queued = p .queued; steps = x }) s
-
-same-walk : (w : Walk) (producer : Producer) (moves : ℕ) (radices : List ℕ) (n : ℕ) (moving : MovingDigits) (word : List ℕ) (capacity : ℕ) (downs : List Bool) (over : Bool)
-    → producer ≡ w .producer
-    → moves ≡ w .moves
-    → radices ≡ w .radices
-    → n ≡ w .n
-    → moving ≡ w .moving
-    → word ≡ w .word
-    → capacity ≡ w .capacity
-    → downs ≡ w .downs
-    → over ≡ w .ended
-    → record { producer = producer; moves = moves; radices = radices; n = n; moving = moving; word = word; capacity = capacity; downs = downs; ended = over } ≡ w
-same-walk w producer moves radices n moving word capacity downs over e1 e2 e3 e4 e5 e6 e7 e8 e9 =
-    ap (λ x. record { producer = x; moves = moves; radices = radices; n = n; moving = moving; word = word; capacity = capacity; downs = downs; ended = over }) e1
-    ∙ ap (λ x. record { producer = w .producer; moves = x; radices = radices; n = n; moving = moving; word = word; capacity = capacity; downs = downs; ended = over }) e2
-    ∙ ap (λ x. record { producer = w .producer; moves = w .moves; radices = x; n = n; moving = moving; word = word; capacity = capacity; downs = downs; ended = over }) e3
-    ∙ ap (λ x. record { producer = w .producer; moves = w .moves; radices = w .radices; n = x; moving = moving; word = word; capacity = capacity; downs = downs; ended = over }) e4
-    ∙ ap (λ x. record { producer = w .producer; moves = w .moves; radices = w .radices; n = w .n; moving = x; word = word; capacity = capacity; downs = downs; ended = over }) e5
-    ∙ ap (λ x. record { producer = w .producer; moves = w .moves; radices = w .radices; n = w .n; moving = w .moving; word = x; capacity = capacity; downs = downs; ended = over }) e6
-    ∙ ap (λ x. record { producer = w .producer; moves = w .moves; radices = w .radices; n = w .n; moving = w .moving; word = w .word; capacity = x; downs = downs; ended = over }) e7
-    ∙ ap (λ x. record { producer = w .producer; moves = w .moves; radices = w .radices; n = w .n; moving = w .moving; word = w .word; capacity = w .capacity; downs = x; ended = over }) e8
-    ∙ ap (λ x. record { producer = w .producer; moves = w .moves; radices = w .radices; n = w .n; moving = w .moving; word = w .word; capacity = w .capacity; downs = w .downs; ended = x }) e9
-
 notch-back : (top a left : ℕ) (down : Bool) → ToGo top a down left → cond down left (top - left) ≡ a
 notch-back top a left true e = omega arith
 notch-back top a left false e = omega arith
@@ -441,9 +405,9 @@ notch-back top a left false e = omega arith
 module _
     (w₀ : Walk) (tops rest left bytes entries : List ℕ) (at : Stage) (made : ℕ) (over : Bool)
     (ok : Unloadable w₀ tops rest left bytes entries at made over) (a : Arrays w₀) (long : length entries ≡ 32) (count : ℕ)
-    (is : count ≡ w₀ .moving .count)
+    (is : count ≡ w₀ .directed .moving .count)
   where
-    number-ok : (i : ℕ) → i < count → (1 ≤ getD (w₀ .moving .digits) i 0) × (getD (w₀ .moving .digits) i 0 ≤ 48)
+    number-ok : (i : ℕ) → i < count → (1 ≤ getD (w₀ .directed .moving .digits) i 0) × (getD (w₀ .directed .moving .digits) i 0 ≤ 48)
     number-ok i h =
         let n = ok .counted in
         let most = ok .most in
@@ -452,25 +416,25 @@ module _
         (low, omega arith)
 
     module _ (w : Walk) (t : Unloads w₀ tops rest left bytes entries at made over w) where
-      down-is : (i : ℕ) → i < count → moveDown (getD bytes (i + 1) 0) ≡ getD (w .downs) (getD (w₀ .moving .digits) i 0 - 1) false
+      down-is : (i : ℕ) → i < count → moveDown (getD bytes (i + 1) 0) ≡ getD (w .directed .downs) (getD (w₀ .directed .moving .digits) i 0 - 1) false
       down-is i h =
           let (low, high) = number-ok i h in
           ap moveDown (t .stands .notches .each i (omega arith) .shows)
-          ∙ unpacked (getD (w₀ .moving .digits) i 0) (getD (w .downs) (getD (w₀ .moving .digits) i 0 - 1) false) (omega arith) .1
+          ∙ unpacked (getD (w₀ .directed .moving .digits) i 0) (getD (w .directed .downs) (getD (w₀ .directed .moving .digits) i 0 - 1) false) (omega arith) .1
 
-      target : Target count (w₀ .moving .digits) tops left bytes (w .word) (w .downs)
+      target : Target count (w₀ .directed .moving .digits) tops left bytes (w .directed .word) (w .directed .downs)
       target = record {
-        word-long = t .arrays .word;
-        downs-long = t .arrays .downs;
+        word-long = t .arrays .directed .word;
+        downs-long = t .arrays .directed .downs;
         notch = λ i h.
             ap (λ b. cond b (getD left (i + 1) 0) (getD tops (i + 1) 0 - getD left (i + 1) 0)) (down-is i h)
-            ∙ notch-back (getD tops (i + 1) 0) (getD (w .word) (getD (w₀ .moving .digits) i 0 - 1) 0) (getD left (i + 1) 0)
-            (getD (w .downs) (getD (w₀ .moving .digits) i 0 - 1) false)
+            ∙ notch-back (getD tops (i + 1) 0) (getD (w .directed .word) (getD (w₀ .directed .moving .digits) i 0 - 1) 0) (getD left (i + 1) 0)
+            (getD (w .directed .downs) (getD (w₀ .directed .moving .digits) i 0 - 1) false)
             (t .stands .notches .each i (omega arith) .to-go);
         direction = down-is;
       }
 
-      pending : Pending (w .word) (w .downs) (w₀ .moving .digits) count 0 (w₀ .word) (w₀ .downs)
+      pending : Pending (w .directed .word) (w .directed .downs) (w₀ .directed .moving .digits) count 0 (w₀ .directed .word) (w₀ .directed .downs)
       pending = record {
         each = λ x.
             ⊎-elim (λ same. inl (sym (same .0), sym (same .1))) (λ (i, h, e). inr (i, omega arith, omega arith, e)) (t .stands .notches .others x);
@@ -478,10 +442,10 @@ module _
 
       left-fits : (i : ℕ) → i < count → moveDown (getD bytes (i + 1) 0) ≡ false → getD left (i + 1) 0 ≤ getD tops (i + 1) 0
       left-fits i h up =
-          let g = ap (λ b. getD left (i + 1) 0 + cond b 0 (getD (w .word) (getD (w₀ .moving .digits) i 0 - 1) 0)) (sym (sym (down-is i h) ∙ up)) in
-          let u = ap (λ b. cond b (getD (w .word) (getD (w₀ .moving .digits) i 0 - 1) 0) (getD tops (i + 1) 0)) (sym (sym (down-is i h) ∙ up)) in
+          let g = ap (λ b. getD left (i + 1) 0 + cond b 0 (getD (w .directed .word) (getD (w₀ .directed .moving .digits) i 0 - 1) 0)) (sym (sym (down-is i h) ∙ up)) in
+          let u = ap (λ b. cond b (getD (w .directed .word) (getD (w₀ .directed .moving .digits) i 0 - 1) 0) (getD tops (i + 1) 0)) (sym (sym (down-is i h) ∙ up)) in
           let go = t .stands .notches .each i (omega arith) .to-go in
-          let all : getD left (i + 1) 0 + getD (w .word) (getD (w₀ .moving .digits) i 0 - 1) 0 ≡ getD tops (i + 1) 0 = g ∙ go ∙ sym u in
+          let all : getD left (i + 1) 0 + getD (w .directed .word) (getD (w₀ .directed .moving .digits) i 0 - 1) 0 ≡ getD tops (i + 1) 0 = g ∙ go ∙ sym u in
           omega arith
 
       same-counter : (counter : List ℕ) → CounterBack (count + 1) tops rest (w₀ .producer .counter) counter → counter ≡ w .producer .counter
@@ -507,44 +471,61 @@ module _
           sym (t .stands .ahead .entries x (omega arith) ∙ ap (λ j. getD (filled 1056 0 entries) j 0) z ∙ getD-filled 1056 0 entries x 0 h))
 
       pub unloaded-is : (word : List ℕ) (downs : List Bool) (counter : List ℕ)
-          → WordBack count (w₀ .moving .digits) tops left bytes (w₀ .word) (w₀ .downs) word downs
+          → WordBack count (w₀ .directed .moving .digits) tops left bytes (w₀ .directed .word) (w₀ .directed .downs) word downs
           → CounterBack (count + 1) tops rest (w₀ .producer .counter) counter
           → record {
+            directed =
+                record {
+                  radices = w₀ .directed .radices;
+                  n = w₀ .directed .n;
+                  moving = w₀ .directed .moving;
+                  word = word;
+                  downs = downs;
+                };
             producer = record { counter = counter; place = at .place; queue = entries; queued = at .tail; steps = at .steps };
-            moves = w₀ .moves + made;
-            radices = w₀ .radices;
-            n = w₀ .n;
-            moving = w₀ .moving;
-            word = word;
             capacity = w₀ .capacity;
-            downs = downs;
+            moves = w₀ .moves + made;
             ended = over;
           }
           ≡ w
       unloaded-is word downs counter wb cb =
-          let (ew, ed) = wb (w .word) (w .downs) target pending in
+          let (ew, ed) = wb (w .directed .word) (w .directed .downs) target pending in
           let tail = t .stands .ahead .tail-is in
-          same-walk w _ _ _ _ _ word _ downs _
-          (same-producer (w .producer) counter (at .place) entries (at .tail) (at .steps) (same-counter counter cb) (t .stands .ahead .place-is) same-queue (omega arith) (t .stands .ahead .steps-is))
-          (sym (t .moves))
-          (sym (t .stands .radices))
-          (sym (t .stands .n))
-          (sym (t .stands .moving))
-          ew
-          (sym (t .stands .capacity))
-          ed
-          (sym (t .over-is))
+          let queued : at .tail ≡ w .producer .queued = omega arith in
+          let counts = same-counter counter cb in
+          λ i.
+          record {
+            directed =
+                record {
+                  radices = sym (t .stands .radices) i;
+                  n = sym (t .stands .n) i;
+                  moving = sym (t .stands .moving) i;
+                  word = ew i;
+                  downs = ed i;
+                };
+            producer =
+                record {
+                  counter = counts i;
+                  place = t .stands .ahead .place-is i;
+                  queue = same-queue i;
+                  queued = queued i;
+                  steps = t .stands .ahead .steps-is i;
+                };
+            capacity = sym (t .stands .capacity) i;
+            moves = sym (t .moves) i;
+            ended = sym (t .over-is) i;
+          }
 
-    pub word-fits : WordFits count (w₀ .moving .digits) tops left bytes (w₀ .word) (w₀ .downs)
+    pub word-fits : WordFits count (w₀ .directed .moving .digits) tops left bytes (w₀ .directed .word) (w₀ .directed .downs)
     word-fits =
         let f = ok .few in
         record {
-          numbers-long = a .moving;
+          numbers-long = a .directed .moving;
           tops-long = ok .wide .tops-long;
           left-long = ok .wide .left-long;
           bytes-long = ok .wide .bytes-long;
-          word-long = a .word;
-          downs-long = a .downs;
+          word-long = a .directed .word;
+          downs-long = a .directed .downs;
           few = omega arith;
           from-one = λ i h. number-ok i h .0;
           within = λ i h. number-ok i h .1;

@@ -18,14 +18,16 @@ use Rattle.gray_theory.specs.Arrays.{digitArray, filled}
 use Rattle.gray_theory.specs.Filled.{digit-array, take-filled}
 use Rattle.gray_theory.specs.Locks.{MovingDigits, unlocked, movingDigits, movingInRange}
 use Rattle.gray_theory.specs.Unlocked.{size-unlocked, unlocked-most, says-moving, moving-stored}
+use Rattle.gray_theory.specs.Engines.{openWith}
 use Rattle.gray_theory.specs.Capacities.{Openable}
+use Rattle.gray_theory.specs.WordRanges.{array-whole, moving-whole}
 use Rattle.gray_theory.specs.Refusals.{openable-passes}
 use Rattle.ahead_theory.specs.States.{Walk}
 use Rattle.ahead_theory.specs.Counters.{length-mixedDigits}
-use Rattle.ahead_theory.specs.Pickups.{filledAt, downsFromStart, standing, pickedUp, resumeWith, resumeOf}
+use Rattle.ahead_theory.specs.Pickups.{filledAt, downsFromStart, standing, pickedUp, resumeOf}
 use Rattle.ahead_theory.specs.PickedUp.{downs-from-start}
 use Rattle.ahead.specs.Pickups.{RankedWord, unfilledWith, Unfilled, filledAhead}
-use Rattle.ahead.proofs.Openings.{few-digits, radices-are, moving-are}
+use Rattle.ahead.proofs.Openings.{few-digits}
 use Rattle.ahead.proofs.Stands.{zero-filled}
 
 -- the fewer of two
@@ -58,11 +60,11 @@ module _
 
     taken : take (length l) radices ≡ digits l
     taken =
-        ap₂ take (sym (length-reverse l)) (radices-are l c (p .opens) radices moving (p .radices-is) (p .moving-is))
+        ap₂ take (sym (length-reverse l)) (array-whole l few radices (p .radices-is))
         ∙ take-filled 48 0 (digits l)
 
     numbers : moving ≡ movingDigits (digits l)
-    numbers = moving-are l c (p .opens) radices moving (p .radices-is) (p .moving-is)
+    numbers = moving-whole l few radices (p .radices-is) moving (p .moving-is)
 
     long : length word ≡ length l
     long = word-long l word (p .is-word)
@@ -111,7 +113,7 @@ module _
       unfolding resumeOf pickedUp
       resuming-given w resumed e =
           let ms = digits l in
-          let in-array = radices-are l c (p .opens) radices moving (p .radices-is) (p .moving-is) in
+          let in-array = array-whole l few radices (p .radices-is) in
           let count = sym (length-reverse l) in
           let downs : filled 48 false (downsAt (take (length l) radices) r) ≡ downsFromStart ms r =
           ap (λ t. filled 48 false (downsAt t r)) taken ∙ sym (downs-from-start ms c (p .opens) r rank-small) in
@@ -119,17 +121,13 @@ module _
           let there : filledAhead (unfilledWith radices (length l) moving c notches r) ≡ standing ms c (digits word) r =
           λ i.
           record {
-            radices = in-array i;
-            n = count i;
-            moving = numbers i;
-            word = setting i;
-            capacity = c;
-            downs = downs i;
-            ended = false;
+            directed = record { radices = in-array i; n = count i; moving = numbers i; word = setting i; downs = downs i };
             producer = buffer i;
+            capacity = c;
             moves = r;
+            ended = false;
           } in
           ap (λ t. record { state = t; answer = given tt }) (e ∙ ap filledAhead s ∙ there ∙ ap (standing ms c (digits word)) (p .ranks))
-          ∙ ap (resumeWith w ms c (digits word))
+          ∙ ap (openWith w (pickedUp ms c (digits word)))
           (sym (openable-passes ms c (refusing 8 (not (isWord ms (digits word))) (given tt)) (p .opens)
           ∙ ap (λ b. refusing 8 (not b) (given tt)) (p .is-word)))

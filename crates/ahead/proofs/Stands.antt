@@ -339,15 +339,11 @@ module _ (radices : List ℕ) (n len : ℕ) (wide : len ≡ n) where
   pub stands-unfilled : (moving : MovingDigits) (c : ℕ) (word : List ℕ) (r : ℕ) (counter : List ℕ) (downs : List Bool)
       → Stood (take len radices) r counter downs
       → record {
-        radices = radices;
-        n = n;
-        moving = moving;
-        word = word;
-        capacity = c;
-        downs = downs;
-        ended = false;
+        directed = record { radices = radices; n = n; moving = moving; word = word; downs = downs };
         producer = record { counter = counter; place = 1; queue = replicate 32 0; queued = 0; steps = 0 };
+        capacity = c;
         moves = r;
+        ended = false;
       }
       ≡ unfilledWith radices n moving c word r
   stands-unfilled moving c word r counter downs s =
@@ -357,13 +353,9 @@ module _ (radices : List ℕ) (n len : ℕ) (wide : len ≡ n) where
       s .directions ∙ ap (λ k. filled 48 false (downsAt (take k radices) r)) wide in
       λ i.
       record {
-        radices = radices;
-        n = n;
-        moving = moving;
-        word = word;
-        capacity = c;
-        downs = directions i;
-        ended = false;
+        directed = record { radices = radices; n = n; moving = moving; word = word; downs = directions i };
         producer = record { counter = counts i; place = 1; queue = replicate 32 0; queued = 0; steps = 0 };
+        capacity = c;
         moves = r;
+        ended = false;
       }

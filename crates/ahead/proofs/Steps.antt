@@ -11,22 +11,24 @@ use lib.Seq.{length-take-le, getD-take, getD-at}
 use Rattle.gray_theory.specs.Answers.{given}
 use Rattle.gray_theory.specs.Unlocked.{looked-up-at}
 use Rattle.gray_theory.specs.Directions.{digitInRange}
+use Rattle.gray_theory.specs.DirectedWords.{DirectedWord, digitMoved}
 use Rattle.digit.specs.Advances.{advancedFrom, digit-advanced}
 use Rattle.gray_theory.specs.Engines.{moved, ended, refusedWith}
 use Rattle.gray_theory.specs.DigitRanges.{allBelow-each}
 use Rattle.digit.specs.declared.Directed.{Directed}
-use Rattle.ahead_theory.specs.States.{Producer, Walk, movingRadices, places, inRange}
+use Rattle.ahead_theory.specs.States.{Producer, Walk, movingRadices, places, inRange, Arrays}
 use Rattle.ahead_theory.specs.Work.{countAt, radixAt, runOut, done, work}
 use Rattle.ahead_theory.specs.Calls.{twice, course, removing, dequeued, endOf, moveOf, stepBy, stepOf}
-use Rattle.ahead_theory.specs.InRange.{place-two, producer-says, runs-out, carries-on, appends-one, stays-full, count-grows, Arrays, Ranged, survey-openable, ranged-moving, Reached, reached-more}
+use Rattle.ahead_theory.specs.InRange.{place-two, producer-says, runs-out, carries-on, appends-one, stays-full, count-grows, Ranged, survey-openable, moving-known, Reached, reached-more}
 use Rattle.ahead_theory.specs.Kept.{goes-faulty, goes-over, goes-dry, goes-removing, removes-last, removes-digit, entry-digit}
 use Rattle.ahead.specs.declared.Progress.{Progress}
-use Rattle.ahead.specs.Stages.{assembled, Numbered, movingOf, Survey, Workable, Movable}
+use Rattle.ahead.specs.Structs.{producerWith}
+use Rattle.ahead.specs.Stages.{MovingNumbers, movingOf, Survey, Workable, DigitToMove}
 use Rattle.ahead.proofs.Ranges.{ranged-known, moving-count, moving-most, moving-radices, moving-survey}
 
 -- ---- work
 -- as many radices as numbers
-pub moving-long : (radices numbers : List ℕ) (n count : ℕ) → Numbered numbers n count → length (movingOf radices numbers count) ≡ count
+moving-long : (radices numbers : List ℕ) (n count : ℕ) → MovingNumbers numbers n count → length (movingOf radices numbers count) ≡ count
 moving-long radices numbers n count ok =
     let many = ok .held in
     let most = ok .most in
@@ -35,7 +37,7 @@ moving-long radices numbers n count ok =
 -- the radix at a place of the counter: the last is 2, any other is looked up
 module _ (radices numbers : List ℕ) (n count : ℕ) (ok : Survey radices numbers n count) (place : ℕ) where
   pub radix-last : place ≡ count + 1 → 2 ≡ getD (places (movingOf radices numbers count)) (place - 1) 0
-  radix-last at =
+  radix-last last =
       let long = moving-long radices numbers n count (ok .moving) in
       sym (getD-at (movingOf radices numbers count) 2 [] 0 (place - 1) (omega arith))
 
@@ -75,7 +77,7 @@ module _
 
     -- the code reads the count at the place made a wide number, and asks for the radix there
     abbrev before : Producer
-    before = assembled counter queue at
+    before = producerWith counter queue at
 
     abbrev after : Producer
     after = work ms c before
@@ -100,7 +102,7 @@ module _
           top-test = rw (wide, radix)
 
           pub carried : here ≡ m - 1
-              → assembled (set counter (place - 1) 0) queue
+              → producerWith (set counter (place - 1) 0) queue
               (record { place = at .place + 1; queued = at .queued; steps = at .steps + 1 })
               ≡ after
           unfolding done
@@ -120,7 +122,7 @@ module _
             pub appended : (queued : ℕ)
                 → queued ≡ at .queued
                 → at .queued < c
-                → assembled (set counter (place - 1) (here + 1)) (set queue queued (at .place))
+                → producerWith (set counter (place - 1) (here + 1)) (set queue queued (at .place))
                 (record { place = 1; queued = at .queued + 1; steps = at .steps + 1 })
                 ≡ after
             unfolding done
@@ -136,41 +138,46 @@ module _
 
 -- ---- advance
 -- the digit stands in range, so that the call moves it
-module _ (w : Walk) (k : ℕ) (ok : Movable w k) (place : ℕ) (wide : place ≡ k) where
-  digit-ranged : digitInRange (getD (w .radices) (place - 1) 0) (getD (w .word) (place - 1) 0) (getD (w .downs) (place - 1) false)
-      ≡ true
+module _ (w : Walk) (k : ℕ) (ok : DigitToMove w k) (place : ℕ) (wide : place ≡ k) where
+  abbrev d : DirectedWord
+  d = w .directed
+
+  digit-ranged : digitInRange (getD (d .radices) (place - 1) 0) (getD (d .word) (place - 1) 0) (getD (d .downs) (place - 1) false) ≡ true
   digit-ranged =
-      allBelow-each (w .n) (λ i. digitInRange (getD (w .radices) i 0) (getD (w .word) i 0) (getD (w .downs) i false)) (ok .notches)
+      allBelow-each (d .n) (λ i. digitInRange (getD (d .radices) i 0) (getD (d .word) i 0) (getD (d .downs) i false)) (ok .word .notches)
       (place - 1)
       (omega arith)
 
   pub digit-moved : (to : Directed) (p : Producer)
-      → to ≡ advancedFrom (getD (w .radices) (place - 1) 0) (getD (w .word) (place - 1) 0) (getD (w .downs) (place - 1) false)
+      → to ≡ advancedFrom (getD (d .radices) (place - 1) 0) (getD (d .word) (place - 1) 0) (getD (d .downs) (place - 1) false)
       → record {
         state =
             record {
-              radices = w .radices;
-              n = w .n;
-              moving = w .moving;
-              word = set (w .word) (place - 1) (to .digit);
-              capacity = w .capacity;
-              downs = set (w .downs) (place - 1) (to .down);
-              ended = false;
+              directed =
+                  record {
+                    radices = d .radices;
+                    n = d .n;
+                    moving = d .moving;
+                    word = set (d .word) (place - 1) (to .digit);
+                    downs = set (d .downs) (place - 1) (to .down);
+                  };
               producer = p;
+              capacity = w .capacity;
               moves = w .moves + 1;
+              ended = false;
             };
-        answer = given (moved (record { digit = k; down = getD (w .downs) (place - 1) false }));
+        answer = given (moved (record { digit = k; down = getD (d .downs) (place - 1) false }));
       }
       ≡ moveOf w k p
-  unfolding moveOf
+  unfolding moveOf digitMoved
   digit-moved to p e =
       let made =
       e
-      ∙ digit-advanced (getD (w .radices) (place - 1) 0) (getD (w .word) (place - 1) 0) (getD (w .downs) (place - 1) false)
-      (and-eq-true-iff (leb 2 (getD (w .radices) (place - 1) 0))
-      (digitInRange (getD (w .radices) (place - 1) 0) (getD (w .word) (place - 1) 0) (getD (w .downs) (place - 1) false))
+      ∙ digit-advanced (getD (d .radices) (place - 1) 0) (getD (d .word) (place - 1) 0) (getD (d .downs) (place - 1) false)
+      (and-eq-true-iff (leb 2 (getD (d .radices) (place - 1) 0))
+      (digitInRange (getD (d .radices) (place - 1) 0) (getD (d .word) (place - 1) 0) (getD (d .downs) (place - 1) false))
       .1
-      (le-leb 2 (getD (w .radices) (place - 1) 0) (rw wide (ok .two)), digit-ranged)) in
+      (le-leb 2 (getD (d .radices) (place - 1) 0) (rw wide (ok .digit .two)), digit-ranged)) in
       rw (made, wide)
 
 -- ---- step
@@ -191,56 +198,48 @@ at-most-two false = omega arith
 
 module _ (w : Walk) (s : Ranged w) (a : Arrays w) where
   pub reached-by : (x : ℕ) (p q : Producer) → Reached w x p → q ≡ work (movingRadices w) (w .capacity) p → Reached w (x + 1) q
-  reached-by x p q r e = subst (Reached w (x + 1)) (sym e) (reached-more w s (a .radices) x p r)
+  reached-by x p q r e = subst (Reached w (x + 1)) (sym e) (reached-more w s (a .directed .radices) x p r)
 
-  module _ (x : ℕ) (counter queue : List ℕ) (at : Progress) (r : Reached w x (assembled counter queue at)) where
-    pub workable : x ≤ 2 → Workable (w .radices) (w .moving .digits) (w .n) (w .moving .count) (w .capacity) counter queue at
+  module _ (x : ℕ) (counter queue : List ℕ) (at : Progress) (r : Reached w x (producerWith counter queue at)) where
+    pub workable : x ≤ 2 → Workable (w .directed .radices) (w .directed .moving .digits) (w .directed .n) (w .directed .moving .count) (w .capacity) counter queue at
     workable h =
         let sound = survey-openable w s in
         let known = ranged-known w s in
-        let many = moving-count w a known in
-        let here = producer-says (movingRadices w) (w .capacity) (assembled counter queue at) (r .ahead) .at in
+        let many = moving-count (w .directed) (a .directed) known in
+        let here = producer-says (movingRadices w) (w .capacity) (producerWith counter queue at) (r .ahead) .at in
         let two = at-most-two (w .ended) in
         record {
-          survey = moving-survey w a known;
-          most = moving-most w a known;
+          survey = moving-survey (w .directed) (a .directed) known;
+          most = moving-most (w .directed) (a .directed) known;
           long = r .counter;
           wide = r .queue;
           capacity = sound .capacity;
-          ranged = rw (moving-radices w a known) (r .ahead);
+          ranged = rw (moving-radices (w .directed) (a .directed) known) (r .ahead);
           from-one = here .from-one;
           last = omega arith;
           small = omega arith;
         }
 
-    -- the oldest entry of a queue that holds one is a place, so that where it is not the last it is turned back into a digit's number
+    -- the oldest entry of a queue that holds one is a place, so that where it is not the last it is turned back into a digit's
+    -- number
     module _ (some : at .queued ≡ 0 → ⊥) where
       pub entry-pos : (1 ≤ getD queue 0 0) × (getD queue 0 0 ≤ length (movingRadices w) + 1)
       entry-pos =
-          let oldest = producer-says (movingRadices w) (w .capacity) (assembled counter queue at) (r .ahead) .entries 0 (omega arith) in
+          let oldest = producer-says (movingRadices w) (w .capacity) (producerWith counter queue at) (r .ahead) .entries 0 (omega arith) in
           (oldest .from-one, oldest .last)
 
-      pub movable : (getD queue 0 0 ≡ w .moving .count + 1 → ⊥) → (k : ℕ) → k ≡ getD (w .moving .digits) (getD queue 0 0 - 1) 0 → Movable w k
-      movable other k is =
+      pub to-move : (getD queue 0 0 ≡ w .directed .moving .count + 1 → ⊥) → (k : ℕ) → k ≡ getD (w .directed .moving .digits) (getD queue 0 0 - 1) 0 → DigitToMove w k
+      to-move other k is =
           let sound = survey-openable w s in
-          let many = ranged-moving w s .count in
+          let many = moving-known w s .count in
           let (low, high) = entry-pos in
-          let d = entry-digit w s a (getD queue 0 0) low (omega arith) in
-          rw is
-          (record {
-            room = a .radices;
-            most = s .most;
-            two = d .two;
-            notches = s .notches;
-            from-one = d .from-one;
-            digit = d .digit;
-            small = omega arith;
-          })
+          let digit = entry-digit w s a (getD queue 0 0) low (omega arith) in
+          rw is (record { rooms = a .directed; word = s .word; digit = digit; small = omega arith })
 
 -- what a call answers by the arrays and numbers that its two work steps leave
 module _
     (w : Walk) (ranged : inRange w ≡ true) (going : w .ended ≡ false)
-    (counter queue : List ℕ) (at : Progress) (left : assembled counter queue at ≡ twice w)
+    (counter queue : List ℕ) (at : Progress) (left : producerWith counter queue at ≡ twice w)
   where
     pub refused-dry : at .queued ≡ 0 → refusedWith 10 w ≡ stepOf w
     unfolding stepOf
@@ -262,13 +261,13 @@ module _
       removes : course w ≡ removing
       removes = goes-removing w ranged going (λ none. some (ap (λ p. p .queued) left ∙ none))
 
-      pub ends : getD queue 0 0 ≡ w .moving .count + 1 → endOf w shortened ≡ stepOf w
+      pub ends : getD queue 0 0 ≡ w .directed .moving .count + 1 → endOf w shortened ≡ stepOf w
       ends last = ap (endOf w) is-dequeued ∙ sym (removes-last w removes (sym oldest ∙ last))
 
-      pub moves-digit : (getD queue 0 0 ≡ w .moving .count + 1 → ⊥)
+      pub moves-digit : (getD queue 0 0 ≡ w .directed .moving .count + 1 → ⊥)
           → (k : ℕ)
-          → k ≡ getD (w .moving .digits) (getD queue 0 0 - 1) 0
+          → k ≡ getD (w .directed .moving .digits) (getD queue 0 0 - 1) 0
           → moveOf w k shortened ≡ stepOf w
       moves-digit other k is =
-          ap₂ (moveOf w) (is ∙ ap (λ o. getD (w .moving .digits) (o - 1) 0) oldest) is-dequeued
+          ap₂ (moveOf w) (is ∙ ap (λ o. getD (w .directed .moving .digits) (o - 1) 0) oldest) is-dequeued
           ∙ sym (removes-digit w removes (λ last. other (oldest ∙ last)))

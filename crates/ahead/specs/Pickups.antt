@@ -35,13 +35,14 @@ pub record Stood (radices : List ℕ) (r : ℕ) (counter : List ℕ) (downs : Li
 -- the state at a word of this rank, before any filling
 abbrev pub unfilledWith : List ℕ → ℕ → MovingDigits → ℕ → List ℕ → ℕ → Walk
 unfilledWith radices n moving c word r = record {
-  radices = radices;
-  n = n;
-  moving = moving;
-  word = word;
-  capacity = c;
-  downs = filled 48 false (downsAt (take n radices) r);
-  ended = false;
+  directed =
+      record {
+        radices = radices;
+        n = n;
+        moving = moving;
+        word = word;
+        downs = filled 48 false (downsAt (take n radices) r);
+      };
   producer =
       record {
         counter = filled 49 0 (mixedDigits (unlocked (take n radices)) r);
@@ -50,14 +51,16 @@ unfilledWith radices n moving c word r = record {
         queued = 0;
         steps = 0;
       };
+  capacity = c;
   moves = r;
+  ended = false;
 }
 
 -- a walk at the rank that it has made moves to, before any filling, and how many entries fill its buffer
 pub record Unfilled (w : Walk) (entries : ℕ) : Type 0 where
-  pub most : w .n ≤ 48
+  pub most : w .directed .n ≤ 48
   pub opens : Openable (survey w) (w .capacity)
-  pub moving : movingInRange (survey w) (w .moving) ≡ true
+  pub moving : movingInRange (survey w) (w .directed .moving) ≡ true
   pub below : w .moves < size (movingRadices w)
   pub empty : w .producer ≡ unfilled (movingRadices w) (w .moves)
   pub full : entries ≡ reach (movingRadices w) (w .capacity) (w .moves)

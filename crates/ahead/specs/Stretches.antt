@@ -14,10 +14,9 @@ use Rattle.gray_theory.specs.Radices.{size}
 use Rattle.gray_theory.specs.Engines.{ended, refusedWith}
 use Rattle.gray_theory.specs.RunCalls.{Stop, nothing, end, refusal, Outcome}
 use Rattle.gray_theory.specs.RunLaws.{Moved}
-use Rattle.ahead_theory.specs.States.{Walk, survey, movingRadices, inRange}
+use Rattle.ahead_theory.specs.States.{Walk, survey, movingRadices, inRange, Arrays}
 use Rattle.ahead_theory.specs.Calls.{stepOf}
-use Rattle.ahead_theory.specs.Runs.{state}
-use Rattle.ahead_theory.specs.InRange.{Arrays}
+use Rattle.ahead_theory.specs.Events.{state}
 use Rattle.ahead_theory.specs.Locals.{Fast, TopsOf, Notches, Numbered, Stands}
 use Rattle.stretch.specs.declared.Stage.{Stage}
 use Rattle.stretch.specs.Stages.{fastOf}
@@ -45,7 +44,7 @@ pub record Loaded (w : Walk) (tops rest left bytes : List ℕ) : Type 0 where
   pub tops-are : TopsOf (movingRadices w) tops
   pub counts : (i : ℕ) → i < length (movingRadices w) + 1 → getD rest (i + 1) 0 + getD (w .producer .counter) i 0 ≡ getD tops (i + 1) 0
   pub rest-long : length rest ≡ 256
-  pub notches : Notches (w .moving .digits) (w .moving .count) tops (w .word) (w .downs) (w .word) (w .downs) left bytes
+  pub notches : Notches (w .directed .moving .digits) (w .directed .moving .count) tops (w .directed .word) (w .directed .downs) (w .directed .word) (w .directed .downs) left bytes
 
 -- ---- and back
 pub record CounterFits (last : ℕ) (tops rest counter : List ℕ) : Type 0 where
@@ -110,10 +109,10 @@ pub record Unloadable (w₀ : Walk) (tops rest left bytes entries : List ℕ) (a
   pub now : Walk
   pub unloads : Unloads w₀ tops rest left bytes entries at made over now
   pub wide : Wide tops rest left bytes
-  pub numbers : Numbered (w₀ .moving .digits) (w₀ .radices) (movingRadices w₀) (w₀ .n)
-  pub counted : w₀ .moving .count ≡ length (movingRadices w₀)
-  pub few : w₀ .moving .count ≤ 48
-  pub most : w₀ .n ≤ 48
+  pub numbers : Numbered (w₀ .directed .moving .digits) (w₀ .directed .radices) (movingRadices w₀) (w₀ .directed .n)
+  pub counted : w₀ .directed .moving .count ≡ length (movingRadices w₀)
+  pub few : w₀ .directed .moving .count ≤ 48
+  pub most : w₀ .directed .n ≤ 48
   pub place-small : at .place < 256
   pub tail-small : at .tail < 256
   pub small : w₀ .moves + made < 2 ^ 64

@@ -6,31 +6,32 @@ use Rattle.gray_theory.specs.RunCalls.{Running}
 use Rattle.digit.specs.Moving.{movingAs}
 use Rattle.gray.specs.Enums.{openingAs, steppingAs, runningAs}
 use Rattle.ahead_theory.specs.States as theory
+use Rattle.ahead.specs.declared.Progress.{Progress}
 use Rattle.ahead.specs.declared.Producer.{Producer}
 use Rattle.ahead.specs.declared.Walk.{Walk}
 use Rattle.ahead.specs.declared.Opened.{Opened}
 use Rattle.ahead.specs.declared.Stepped.{Stepped}
 use Rattle.ahead.specs.declared.Ran.{Ran}
 
-abbrev pub producerAs : Producer → theory.Producer
-producerAs p = record {
-  counter = p .counter;
-  place = p .place;
-  queue = p .queue;
-  queued = p .queued;
-  steps = p .steps;
+-- a producer made of its arrays and its numbers
+abbrev pub producerWith : List ℕ → List ℕ → Progress → theory.Producer
+producerWith counter queue at = record {
+  counter = counter;
+  place = at .place;
+  queue = queue;
+  queued = at .queued;
+  steps = at .steps;
 }
+
+abbrev pub producerAs : Producer → theory.Producer
+producerAs p = producerWith (p .counter) (p .queue) (p .at)
 
 abbrev pub walkAs : Walk → theory.Walk
 walkAs w = record {
+  directed = record { radices = w .radices; n = w .n; moving = movingAs (w .moving); word = w .word; downs = w .downs };
   producer = producerAs (w .producer);
-  moves = w .moves;
-  radices = w .radices;
-  n = w .n;
-  moving = movingAs (w .moving);
-  word = w .word;
   capacity = w .capacity;
-  downs = w .downs;
+  moves = w .moves;
   ended = w .ended;
 }
 

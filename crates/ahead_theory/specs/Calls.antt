@@ -3,47 +3,36 @@ use Prim.Native.Nat.{ℕ, _+_, _-_}
 use mathlib.Core.Bool.{true, false, cond, not}
 use mathlib.Core.List.{List, [], _∷_, _++_}
 use lib.Dec.{eqb}
-use lib.ListN.{length, getD, drop, replicate}
-use Rattle.gray_theory.specs.Answers.{Answer, given, refused}
+use lib.ListN.{getD, drop, replicate}
+use Rattle.gray_theory.specs.Answers.{given}
 use Rattle.gray_theory.specs.Radices.{digits}
-use Rattle.gray_theory.specs.Arrays.{filled}
-use Rattle.gray_theory.specs.Locks.{MovingDigits, movingDigits}
-use Rattle.gray_theory.specs.Directions.{wordMoved, downsMoved}
-use Rattle.gray_theory.specs.Engines.{Event, moved, ended, Handed, refusedWith}
+use Rattle.gray_theory.specs.DirectedWords.{DirectedWord, freshWord, digitMoved, changeBy}
+use Rattle.gray_theory.specs.Engines.{Event, moved, ended, Handed, refusedWith, openWith}
 use Rattle.gray_theory.specs.RunCalls.{Running, runWith}
 use Rattle.ahead_theory.specs.States.{Producer, Walk, movingRadices, openCheck, inRange}
 use Rattle.ahead_theory.specs.Work.{work}
 
 -- ---- opening
--- the fresh state of the n radices in an array: the setting all 0, directions all up, the counter all 0, place 1, an empty queue,
--- no changes made, no useful steps, not ended
-abbrev pub freshWith : List ℕ → ℕ → MovingDigits → ℕ → Walk
-freshWith radices n moving c = record {
-  radices = radices;
-  n = n;
-  moving = moving;
-  word = replicate 48 0;
-  capacity = c;
-  downs = replicate 48 false;
-  ended = false;
+-- the fresh state on a word: the counter all 0, place 1, an empty queue, no changes made, no useful steps, not ended
+abbrev pub freshOn : DirectedWord → ℕ → Walk
+freshOn d c = record {
+  directed = d;
   producer = record { counter = replicate 49 0; place = 1; queue = replicate 32 0; queued = 0; steps = 0 };
+  capacity = c;
   moves = 0;
+  ended = false;
 }
 
 unfoldable pub fresh : List ℕ → ℕ → Walk
-fresh ms c = freshWith (filled 48 0 ms) (length ms) (movingDigits ms) c
+fresh ms c = freshOn (freshWord ms) c
 
 -- the state of no survey
 abbrev pub closedWalk : Walk
 closedWalk = fresh [] 0
 
 -- a refused opening hands back the state as it came, an accepted one the fresh state
-abbrev pub openWith : Walk → List ℕ → ℕ → Answer Unit → Handed Walk Unit
-openWith w ms c (given u) = record { state = fresh ms c; answer = given u }
-openWith w ms c (refused k) = refusedWith k w
-
 unfoldable pub openOf : Walk → List ℕ → ℕ → Handed Walk Unit
-openOf w radices c = openWith w (digits radices) c (openCheck (digits radices) c)
+openOf w radices c = openWith w (fresh (digits radices) c) (openCheck c (digits radices))
 
 -- ---- one call
 -- the producer after the two work steps of a call
@@ -80,43 +69,23 @@ dequeued p = record {
 -- the walk ends with the producer p
 unfoldable pub endOf : Walk → Producer → Handed Walk Event
 endOf w p = record {
-  state =
-      record {
-        radices = w .radices;
-        n = w .n;
-        moving = w .moving;
-        word = w .word;
-        capacity = w .capacity;
-        downs = w .downs;
-        ended = true;
-        producer = p;
-        moves = w .moves;
-      };
+  state = record { directed = w .directed; producer = p; capacity = w .capacity; moves = w .moves; ended = true };
   answer = given ended;
 }
 
--- digit k, at index k − 1, moves one notch in its direction, which turns if the digit is then at an end; j grows by 1
+-- digit k moves one notch in its direction, which turns if the digit is then at an end; j grows by 1
 unfoldable pub moveOf : Walk → ℕ → Producer → Handed Walk Event
 moveOf w k p = record {
   state =
-      record {
-        radices = w .radices;
-        n = w .n;
-        moving = w .moving;
-        word = wordMoved (w .word) (w .downs) (k - 1);
-        capacity = w .capacity;
-        downs = downsMoved (w .radices) (w .word) (w .downs) (k - 1);
-        ended = false;
-        producer = p;
-        moves = w .moves + 1;
-      };
-  answer = given (moved (record { digit = k; down = getD (w .downs) (k - 1) false }));
+      record { directed = digitMoved (w .directed) k; producer = p; capacity = w .capacity; moves = w .moves + 1; ended = false };
+  answer = given (moved (changeBy (w .directed) k));
 }
 
 -- the oldest entry k is removed: one more than the digits that move ends the walk, any other is turned back into the number of
 -- its digit, which moves
 abbrev pub removalOf : Walk → ℕ → Producer → Handed Walk Event
-removalOf w k p = cond (eqb k (w .moving .count + 1)) (endOf w p) (moveOf w (getD (w .moving .digits) (k - 1) 0) p)
+removalOf w k p =
+    cond (eqb k (w .directed .moving .count + 1)) (endOf w p) (moveOf w (getD (w .directed .moving .digits) (k - 1) 0) p)
 
 abbrev pub stepBy : Walk → Course → Handed Walk Event
 stepBy w faulty = refusedWith 7 w

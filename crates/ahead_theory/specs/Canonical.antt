@@ -15,8 +15,8 @@ use Rattle.gray_theory.specs.Radices.{size, mixedDigits}
 use Rattle.gray_theory.specs.Changes.{ruler}
 use Rattle.gray_theory.specs.Rulers.{ruler-at-end}
 use Rattle.gray_theory.specs.Arrays.{filled}
-use Rattle.gray_theory.specs.Locks.{MovingDigits, movingDigits}
-use Rattle.gray_theory.specs.WalkArrays.{wordArray, downArray}
+use Rattle.gray_theory.specs.DirectedWords.{DirectedWord}
+use Rattle.gray_theory.specs.WordRanges.{directedAt}
 use Rattle.gray_theory.specs.Filled.{getD-filled, set-filled, filled-append}
 use Rattle.ahead_theory.specs.States.{Producer, Walk, places}
 use Rattle.ahead_theory.specs.Work.{Work, carry, append, idle, countAt, radixAt, runOut, kind, done}
@@ -56,17 +56,7 @@ producerAt ms s t k p = record {
 
 -- the walk at rank t, with the producer q
 abbrev pub walkAt : List ℕ → ℕ → ℕ → Bool → Producer → Walk
-walkAt ms c t over q = record {
-  radices = filled 48 0 ms;
-  n = length ms;
-  moving = movingDigits ms;
-  word = wordArray ms t;
-  capacity = c;
-  downs = downArray ms t;
-  ended = over;
-  producer = q;
-  moves = t;
-}
+walkAt ms c t over q = record { directed = directedAt ms t; producer = q; capacity = c; moves = t; ended = over }
 
 -- states with equal parts are equal
 pub same-producer : {a a′ q q′ : List ℕ} {i i′ k k′ s s′ : ℕ}
@@ -80,19 +70,18 @@ pub same-producer : {a a′ q q′ : List ℕ} {i i′ k k′ s s′ : ℕ}
     (record { counter = a′; place = i′; queue = q′; queued = k′; steps = s′ })
 same-producer a i q k s = cc
 
-pub same-walk : {ms word word′ : List ℕ} {downs downs′ : List Bool} {n c j j′ : ℕ} {v : MovingDigits} {over : Bool} {q q′ : Producer}
-    → word ≡ word′
-    → downs ≡ downs′
+pub same-walk : {d d′ : DirectedWord} {q q′ : Producer} {c j j′ : ℕ} {over : Bool}
+    → d ≡ d′
     → q ≡ q′
     → j ≡ j′
     → _≡_ {A = Walk}
-    (record { radices = ms; n = n; moving = v; word = word; capacity = c; downs = downs; ended = over; producer = q; moves = j })
-    (record { radices = ms; n = n; moving = v; word = word′; capacity = c; downs = downs′; ended = over; producer = q′; moves = j′ })
-same-walk w d q j = cc
+    (record { directed = d; producer = q; capacity = c; moves = j; ended = over })
+    (record { directed = d′; producer = q′; capacity = c; moves = j′; ended = over })
+same-walk d q j = cc
 
 -- ---- one work step
 -- a work step at t, k, p is the event e and comes to k′, p′
-pub record Does (ms : List ℕ) (c s t k p : ℕ) (e : Work) (k′ p′ : ℕ) : Type 0 where
+pub record WorksTo (ms : List ℕ) (c s t k p : ℕ) (e : Work) (k′ p′ : ℕ) : Type 0 where
   pub numbers : Worked ms c t k p e k′ p′
   pub is-kind : kind ms c (producerAt ms s t k p) ≡ e
   pub leaves : done e (producerAt ms s t k p) ≡ producerAt ms (s + gained e) t k′ p′
@@ -167,7 +156,7 @@ module _ (ms : List ℕ) (c : ℕ) (v : Buffered ms c) (s t k p : ℕ) (at : Pos
         ap (λ (m : ℕ). eqb (countAt (producerAt ms s t k p)) (m - 1)) (sym two) ∙ at-top in
         rw (eq-eqb (suc p) (length ms + 1) (omega arith)) top
 
-    does-last : (e : Work) × (k′ : ℕ) × (p′ : ℕ) × Does ms c s t k p e k′ p′
+    does-last : (e : Work) × (k′ : ℕ) × (p′ : ℕ) × WorksTo ms c s t k p e k′ p′
     unfolding finished done gained
     does-last =
         let w = place-within in
@@ -256,7 +245,7 @@ module _ (ms : List ℕ) (c : ℕ) (v : Buffered ms c) (s t k p : ℕ) (at : Pos
     no-carry : suc p ≡ ruler ms (suc (t + k)) → eqb (countAt (producerAt ms s t k p)) (radixAt ms (producerAt ms s t k p) - 1) ≡ false
     no-carry h = test-is ∙ le-ltb (suc p) (ruler ms (suc (t + k))) (omega arith)
 
-    carries-on : suc p < ruler ms (suc (t + k)) → Does ms c s t k p carry k (suc p)
+    carries-on : suc p < ruler ms (suc (t + k)) → WorksTo ms c s t k p carry k (suc p)
     unfolding finished done gained
     carries-on h =
         record {
@@ -265,7 +254,7 @@ module _ (ms : List ℕ) (c : ℕ) (v : Buffered ms c) (s t k p : ℕ) (at : Pos
           leaves = same-producer cleared-more (add-one (suc p)) refl refl refl;
         }
 
-    pub appends-one : suc p ≡ ruler ms (suc (t + k)) → k < c → Does ms c s t k p append (suc k) 0
+    pub appends-one : suc p ≡ ruler ms (suc (t + k)) → k < c → WorksTo ms c s t k p append (suc k) 0
     unfolding finished done gained
     appends-one h room =
         let cap = v .capacity in
@@ -276,7 +265,7 @@ module _ (ms : List ℕ) (c : ℕ) (v : Buffered ms c) (s t k p : ℕ) (at : Pos
           leaves = same-producer (counted-more h) refl (queued-more h (omega arith)) (add-one k) refl;
         }
 
-    stays-idle : suc p ≡ ruler ms (suc (t + k)) → k ≡ c → Does ms c s t k p idle k p
+    stays-idle : suc p ≡ ruler ms (suc (t + k)) → k ≡ c → WorksTo ms c s t k p idle k p
     unfolding finished done gained
     stays-idle h full =
         record {
@@ -285,7 +274,7 @@ module _ (ms : List ℕ) (c : ℕ) (v : Buffered ms c) (s t k p : ℕ) (at : Pos
           leaves = stays;
         }
 
-    does-more : (e : Work) × (k′ : ℕ) × (p′ : ℕ) × Does ms c s t k p e k′ p′
+    does-more : (e : Work) × (k′ : ℕ) × (p′ : ℕ) × WorksTo ms c s t k p e k′ p′
     does-more =
         let h = at .carries in
         let f = at .fits in
@@ -298,7 +287,7 @@ module _ (ms : List ℕ) (c : ℕ) (v : Buffered ms c) (s t k p : ℕ) (at : Pos
               ]
         ]
 
-  pub does : (e : Work) × (k′ : ℕ) × (p′ : ℕ) × Does ms c s t k p e k′ p′
+  pub does : (e : Work) × (k′ : ℕ) × (p′ : ℕ) × WorksTo ms c s t k p e k′ p′
   does =
       let h = at .held in
       elim (decLt (suc (t + k)) (2 * size ms)) [

@@ -22,13 +22,13 @@ use Rattle.gray_theory.specs.Unlocked.{unlocked-two, size-unlocked}
 use Rattle.gray_theory.specs.Rulers.{ruler-pos}
 use Rattle.gray_theory.specs.Sizes.{size-pos}
 use Rattle.gray_theory.specs.Arrays.{filled}
-use Rattle.gray_theory.specs.WalkArrays.{word-array-start, down-array-start}
+use Rattle.gray_theory.specs.WordRanges.{fresh-at}
 use Rattle.gray_theory.specs.Filled.{take-filled, filled-replicate}
 use Rattle.gray_theory.specs.Capacities.{Openable}
 use Rattle.ahead_theory.specs.States.{Producer, Walk, places, inRange}
 use Rattle.ahead_theory.specs.Work.{Work, append, runOut, kind, done}
 use Rattle.ahead_theory.specs.Calls.{fresh, once, twice, Course, course, dequeued, endOf, moveOf, stepBy, stepOf}
-use Rattle.ahead_theory.specs.Runs.{state, answer, events, Accepting}
+use Rattle.ahead_theory.specs.Events.{state, answer, events, Accepting}
 use Rattle.ahead_theory.specs.Demand.{Within, Finished, StepsCounted, NamesChange, WalksTheList, RunsDry, WorksAhead, StaysInRange}
 use Rattle.ahead_theory.specs.GoingOn.{NamesFrom, GoesOn, Does, Does.names, Does.is-end, Does.is-dry, KeepsToTheList}
 use Rattle.ahead_theory.specs.Counters.{mixed-start, length-places}
@@ -55,7 +55,7 @@ not-7 w r e = by (w .ended) (eqb (twice w .queued) 0) (rw r at e)
     by true empty e = impossible (cc)
     by false true e = let z : _≡_ {A = ℕ} 10 7 = cc in omega arith
     by false false e =
-        removal-given w (eqb (getD (twice w .queue) 0 0) (w .moving .count + 1)) (getD (w .moving .digits) (getD (twice w .queue) 0 0 - 1) 0) 7
+        removal-given w (eqb (getD (twice w .queue) 0 0) (w .directed .moving .count + 1)) (getD (w .directed .moving .digits) (getD (twice w .queue) 0 0 - 1) 0) 7
         (dequeued (twice w))
         e
 
@@ -224,12 +224,11 @@ module _ (ms : List ℕ) (c : ℕ) (v : Openable ms c) where
   fresh-is : fresh ms c ≡ running ms c 0 0 0 0
   unfolding fresh entries
   fresh-is =
-      let m = v .survey .most in
       let l = length-places (unlocked ms) in
       let few = buffered v .most in
       let counter : replicate 49 0 ≡ filled 49 0 (mixedDigits (places (unlocked ms)) 0) =
       sym (ap (filled 49 0) (mixed-start (places (unlocked ms))) ∙ filled-replicate 49 0 (length (places (unlocked ms))) (omega arith)) in
-      same-walk (word-array-start ms m) (down-array-start ms (v .survey .one) m) (same-producer counter refl refl refl refl) refl
+      same-walk (fresh-at ms (v .survey)) (same-producer counter refl refl refl refl) refl
 
   -- nothing is worked out
   pub fresh-placed : Placed ms c 0 (fresh ms c)

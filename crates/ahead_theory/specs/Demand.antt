@@ -14,7 +14,7 @@ use Rattle.gray_theory.specs.Engines.{ended, Names}
 use Rattle.ahead_theory.specs.States.{Walk, setting, inRange}
 use Rattle.ahead_theory.specs.Work.{Work, append, runOut}
 use Rattle.ahead_theory.specs.Calls.{once, twice, stepOf}
-use Rattle.ahead_theory.specs.Runs.{state, answer, events, useful, appends, Accepting}
+use Rattle.ahead_theory.specs.Events.{state, answer, events, useful, appends, Accepting}
 
 -- (a) the queue holds at most c entries, before the call and after each of its work steps
 pub record Within (c : ℕ) (w : Walk) : Type 0 where

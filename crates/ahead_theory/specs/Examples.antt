@@ -8,6 +8,7 @@ use Rattle.gray_theory.specs.Words.{isWord, rank}
 use Rattle.gray_theory.specs.Arrays.{filled}
 use Rattle.gray_theory.specs.Locks.{unlocked, moving, movingInRange}
 use Rattle.gray_theory.specs.Directions.{allBelow}
+use Rattle.gray_theory.specs.DirectedWords.{wordInRange, digitMoved}
 use Rattle.gray_theory.specs.Engines.{after}
 use Rattle.ahead_theory.specs.States.{producerInRange, inRange}
 use Rattle.ahead_theory.specs.Work.{kind, done}
@@ -19,13 +20,14 @@ use Rattle.ahead_theory.specs.Pickups.{fillable, fill, pickedUp, resumeO
 pub middle-of-2-1-3 : resumeOf closedWalk (2 ∷ 1 ∷ 3 ∷ []) 2 (0 ∷ 0 ∷ 2 ∷ []) ≡ record {
   state =
       record {
-        radices = filled 48 0 (3 ∷ 1 ∷ 2 ∷ []);
-        n = 3;
-        moving = record { digits = filled 48 0 (1 ∷ 3 ∷ []); count = 2 };
-        word = filled 48 0 (2 ∷ 0 ∷ 0 ∷ []);
-        capacity = 2;
-        downs = filled 48 false (true ∷ []);
-        ended = false;
+        directed =
+            record {
+              radices = filled 48 0 (3 ∷ 1 ∷ 2 ∷ []);
+              n = 3;
+              moving = record { digits = filled 48 0 (1 ∷ 3 ∷ []); count = 2 };
+              word = filled 48 0 (2 ∷ 0 ∷ 0 ∷ []);
+              downs = filled 48 false (true ∷ []);
+            };
         producer =
             record {
               counter = filled 49 0 (1 ∷ 1 ∷ 0 ∷ []);
@@ -34,9 +36,11 @@ pub middle-of-2-1-3 : resumeOf closedWalk (2 ∷ 1 ∷ 3 ∷ []) 2 (0 ∷ 0 ∷ 
               queued = 2;
               steps = 0;
             };
+        capacity = 2;
         moves = 2;
+        ended = false;
       };
   answer = given tt;
 }
-unfolding resumeOf pickedUp size allFrom isWord rank unlocked moving allBelow kind done fresh mixedDigits fillable fill after stepOf course dequeued endOf moveOf producerInRange inRange movingInRange
+unfolding resumeOf pickedUp size allFrom isWord rank unlocked moving allBelow kind done fresh mixedDigits fillable fill after stepOf course dequeued endOf moveOf digitMoved producerInRange inRange wordInRange movingInRange
 middle-of-2-1-3 = refl

@@ -17,7 +17,7 @@ use Rattle.ahead_theory.specs.Entries.{cost-mono}
 use Rattle.ahead_theory.specs.Pickups.{unfilled, fillSteps, uncounted, filledAt}
 use Rattle.ahead_theory.specs.Positions.{Buffered, Position, stepsAt, one, gained, work-position, work-steps, steps-short}
 use Rattle.ahead_theory.specs.Canonical.{entries, length-entries, producerAt, does}
-use Rattle.ahead_theory.specs.Ranged.{producer-ranged}
+use Rattle.ahead_theory.specs.RunRanges.{producer-ranged}
 use Rattle.ahead_theory.specs.Rounds.{work-is}
 use Rattle.ahead_theory.specs.Filling.{reach, reaches, reach-fits, reach-some, start, useful-step, unfilled-is, filled-ahead}
 

@@ -28,13 +28,13 @@ use Rattle.ahead_theory.specs.Entries.{cost-mono}
 use Rattle.ahead_theory.specs.Pickups.{unfilled, fillable, fill, fillSteps, uncounted, filledAt}
 use Rattle.ahead_theory.specs.Positions.{Buffered, Position, Worked, Worked.carried, Worked.appended, Worked.idled, Worked.spent, stepsAt, one, gained, work-position, work-steps, paid, Ahead, ahead-full, ahead-whole}
 use Rattle.ahead_theory.specs.Canonical.{entries, length-entries, producerAt, same-producer, does}
-use Rattle.ahead_theory.specs.Ranged.{getD-entries}
+use Rattle.ahead_theory.specs.RunRanges.{getD-entries}
 use Rattle.ahead_theory.specs.Rounds.{work-is}
 use Rattle.ahead_theory.specs.Capacity.{work-within}
 
 -- ---- the start
 -- below N the last place of the counter is 0
-pub mixed-last : (ms : List ℕ) (r : ℕ) → r < size ms → mixedDigits (places ms) r ≡ mixedDigits ms r ++ (0 ∷ [])
+mixed-last : (ms : List ℕ) (r : ℕ) → r < size ms → mixedDigits (places ms) r ≡ mixedDigits ms r ++ (0 ∷ [])
 unfolding mixedDigits
 mixed-last [] r h = let z : r % 2 ≡ 0 = unfold size in omega arith in rw z
 mixed-last (m ∷ ms) r h = ap (λ (l : List ℕ). r % m ∷ l) (mixed-last ms (r / m) (quotient-below m ms r h))
@@ -139,7 +139,7 @@ module _ (ms : List ℕ) (c : ℕ) (v : Buffered ms c) (t : ℕ) (below : t < si
   useful-step q fits within more (spent h) = absurd (omega arith)
 
   -- g useful steps are left: with as many at least, filling comes to its reach
-  pub fill-reaches : (f g s k p q : ℕ)
+  fill-reaches : (f g s k p q : ℕ)
       → Reach ms c t q
       → Position ms c t k p
       → k ≤ q
@@ -186,7 +186,7 @@ module _ (ms : List ℕ) (c : ℕ) (v : Buffered ms c) (t : ℕ) (below : t < si
   reach-some = some-of (reach ms c t) (reaches ms c t below)
 
   -- the useful steps of filling
-  abbrev pub fillCost : ℕ
+  abbrev fillCost : ℕ
   fillCost = cost ms (t + reach ms c t) - cost ms t
 
   -- it comes to the fewer of c and N − t entries, with no carry pending, within fewer work steps than its bound; more make no

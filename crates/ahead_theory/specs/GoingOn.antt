@@ -12,7 +12,7 @@ use Rattle.gray_theory.specs.Locks.{unlocked}
 use Rattle.gray_theory.specs.Changes.{change}
 use Rattle.gray_theory.specs.Engines.{moved, ended}
 use Rattle.ahead_theory.specs.States.{Producer, Walk, setting, inRange}
-use Rattle.ahead_theory.specs.Runs.{state, answer}
+use Rattle.ahead_theory.specs.Events.{state, answer}
 use Rattle.ahead_theory.specs.Demand.{Within}
 
 -- call t names change r + t: it answers that digit and direction, and hands back the setting of rank r + t
@@ -49,17 +49,7 @@ pub record KeepsToTheList (ms : List ℕ) (c r : ℕ) (w : Walk) : Type 0 where
 -- ---- and the walk from the start
 -- a walk with another capacity, counter, place and queue, and another count of useful steps
 abbrev pub rebuffered : Walk → ℕ → Producer → Walk
-rebuffered w c p = record {
-  radices = w .radices;
-  n = w .n;
-  moving = w .moving;
-  word = w .word;
-  capacity = c;
-  downs = w .downs;
-  ended = w .ended;
-  producer = p;
-  moves = w .moves;
-}
+rebuffered w c p = record { directed = w .directed; producer = p; capacity = c; moves = w .moves; ended = w .ended }
 
 -- a walk w with c places and the walk f from the start after r calls: they differ in their buffers alone; and with places enough
 -- every later answer is the same

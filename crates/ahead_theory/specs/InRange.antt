@@ -9,30 +9,21 @@ use mathlib.Core.List.{List, [], _∷_, _++_}
 use borrow.Author.Tests.{lt-ltb, ltb-true, le-leb, leb-true, eq-eqb, eqb-true, eqb-false}
 use lib.Dec.{eqb, ltb, leb}
 use lib.ListN.{length, getD, drop, set, length-append, length-drop, length-set, List·getD-append, List·getD-eq-default}
-use lib.Seq.{length-take-le, getD-drop, getD-set-same, getD-set-other, getD-append-seam}
-use Rattle.gray_theory.specs.Answers.{isGiven}
+use lib.Seq.{getD-drop, getD-set-same, getD-set-other, getD-append-seam}
 use Rattle.gray_theory.specs.Bools.{impossible}
-use Rattle.gray_theory.specs.Directions.{digitsInRange}
+use Rattle.gray_theory.specs.DirectedWords.{wordInRange}
+use Rattle.gray_theory.specs.WordRanges.{WordRange, says-word, word-says, ranged-moving, survey-long}
 use Rattle.gray_theory.specs.Radices.{allFrom, size}
 use Rattle.gray_theory.specs.Sizes.{radix-two}
-use Rattle.gray_theory.specs.Locks.{movingInRange}
-use Rattle.gray_theory.specs.Unlocked.{MovingSays, moving-says, unlocked-two, unlocked-most}
+use Rattle.gray_theory.specs.Locks.{MovingSays}
+use Rattle.gray_theory.specs.Unlocked.{unlocked-two, unlocked-most}
 use Rattle.gray_theory.specs.DigitRanges.{allBelow-each, each-allBelow}
-use Rattle.ahead_theory.specs.States.{Producer, Walk, survey, movingRadices, openCheck, places, isPlace, counterInRange, entriesInRange, producerInRange, stepLimit, inRange}
+use Rattle.ahead_theory.specs.States.{Producer, Walk, Arrays, survey, movingRadices, openCheck, places, isPlace, counterInRange, entriesInRange, producerInRange, stepLimit, inRange}
 use Rattle.ahead_theory.specs.Work.{Work, carry, append, idle, countAt, radixAt, runOut, kind, done, work}
 use Rattle.ahead_theory.specs.Counters.{allFrom-places, length-places}
 use Rattle.gray_theory.specs.Capacities.{Openable}
 use Rattle.ahead_theory.specs.Openings.{openable}
 use Rattle.ahead_theory.specs.Calls.{once, twice, dequeued}
-
--- the lengths that the arrays of a state have
-pub record Arrays (w : Walk) : Type 0 where
-  pub radices : length (w .radices) ≡ 48
-  pub moving : length (w .moving .digits) ≡ 48
-  pub word : length (w .word) ≡ 48
-  pub downs : length (w .downs) ≡ 48
-  pub counter : length (w .producer .counter) ≡ 49
-  pub queue : length (w .producer .queue) ≡ 32
 
 -- ---- the radices
 -- the radix of every place is at least 2, and that of the last is 2
@@ -134,7 +125,7 @@ module _ (ms : List ℕ) (c : ℕ) (p : Producer) where
 
 -- what each kind of work step tells of a producer in range: a carry stands at the place of a digit, since b = 1 at the last place
 -- is the idle rule; an append finds room for a greater count and for an entry
-pub data Working (ms : List ℕ) (c : ℕ) (p : Producer) : Type 0 where
+data Working (ms : List ℕ) (c : ℕ) (p : Producer) : Type 0 where
   carries : kind ms c p ≡ carry → p .place ≤ length ms → Working ms c p
   appends : kind ms c p ≡ append → countAt p + 1 < radixAt ms p → p .queued < c → Working ms c p
   idles : kind ms c p ≡ idle → Working ms c p
@@ -159,7 +150,7 @@ module _ (ms : List ℕ) (c : ℕ) (p : Producer) (two : allFrom 2 ms ≡ true) 
       let not-top = eqb-false (countAt p) (radixAt ms p - 1) e in
       elim (decLt (countAt p + 1) (radixAt ms p)) [ yes h ↦ h | no h ↦ absurd (not-top (omega arith)) ]
 
-  pub working : Working ms c p
+  working : Working ms c p
   working = go (runOut ms p) refl (eqb (countAt p) (radixAt ms p - 1)) refl (ltb (p .queued) c) refl
     where
       go : (r : Bool)
@@ -227,7 +218,7 @@ module _
         })
     work-in-range s (idles e) = subst (λ k. ProducerRange ms c (done k p)) (sym e) s
 
-    pub work-keeps : producerInRange ms c p ≡ true → producerInRange ms c (work ms c p) ≡ true
+    work-keeps : producerInRange ms c p ≡ true → producerInRange ms c (work ms c p) ≡ true
     work-keeps ranged =
         let s = producer-says ms c p ranged in
         says-producer ms c (work ms c p) (work-in-range s (working ms c p two s))
@@ -275,10 +266,7 @@ dequeued-in-range ms c p ranged wide some =
 
 -- ---- the range rule for a state, part by part
 pub record Ranged (w : Walk) : Type 0 where
-  pub most : w .n ≤ 48
-  pub opens : isGiven (openCheck (survey w) (w .capacity)) ≡ true
-  pub notches : digitsInRange (w .n) (w .radices) (w .word) (w .downs) ≡ true
-  pub moving : movingInRange (survey w) (w .moving) ≡ true
+  pub word : WordRange (openCheck (w .capacity)) (w .directed)
   pub ahead : producerInRange (movingRadices w) (w .capacity) (w .producer) ≡ true
   pub rank : w .moves < size (survey w)
   pub steps : w .producer .steps ≤ stepLimit (w .moves) (w .ended)
@@ -287,32 +275,23 @@ module _ (w : Walk) where
   pub says-range : Ranged w → inRange w ≡ true
   unfolding inRange
   says-range s =
-      let most = le-leb (w .n) 48 (s .most) in
+      let word = says-word (openCheck (w .capacity)) (w .directed) (s .word) in
       let rank = lt-ltb (w .moves) (size (survey w)) (s .rank) in
       let steps = le-leb (w .producer .steps) (stepLimit (w .moves) (w .ended)) (s .steps) in
-      rw (most, s .opens, s .notches, s .moving, s .ahead, rank, steps)
+      rw (word, s .ahead, rank, steps)
 
   pub range-says : inRange w ≡ true → Ranged w
   unfolding inRange
   range-says e =
-      let most = leb (w .n) 48 in
-      let opens = isGiven (openCheck (survey w) (w .capacity)) in
-      let notches = digitsInRange (w .n) (w .radices) (w .word) (w .downs) in
-      let moving = movingInRange (survey w) (w .moving) in
+      let word = wordInRange (openCheck (w .capacity)) (w .directed) in
       let ahead = producerInRange (movingRadices w) (w .capacity) (w .producer) in
       let rank = ltb (w .moves) (size (survey w)) in
       let steps = leb (w .producer .steps) (stepLimit (w .moves) (w .ended)) in
-      let (six, s) = and-eq-true-iff (most && opens && notches && moving && ahead && rank) steps .0 e in
-      let (five, r) = and-eq-true-iff (most && opens && notches && moving && ahead) rank .0 six in
-      let (four, a) = and-eq-true-iff (most && opens && notches && moving) ahead .0 five in
-      let (three, v) = and-eq-true-iff (most && opens && notches) moving .0 four in
-      let (two, t) = and-eq-true-iff (most && opens) notches .0 three in
-      let (one, o) = and-eq-true-iff most opens .0 two in
+      let (three, s) = and-eq-true-iff (word && ahead && rank) steps .0 e in
+      let (two, r) = and-eq-true-iff (word && ahead) rank .0 three in
+      let (one, a) = and-eq-true-iff word ahead .0 two in
       record {
-        most = leb-true (w .n) 48 one;
-        opens = o;
-        notches = t;
-        moving = v;
+        word = word-says (openCheck (w .capacity)) (w .directed) one;
         ahead = a;
         rank = ltb-true (w .moves) (size (survey w)) r;
         steps = leb-true (w .producer .steps) (stepLimit (w .moves) (w .ended)) s;
@@ -320,16 +299,17 @@ module _ (w : Walk) where
 
 module _ (w : Walk) (s : Ranged w) where
   pub survey-openable : Openable (survey w) (w .capacity)
-  survey-openable = openable (survey w) (w .capacity) (s .opens)
+  survey-openable = openable (survey w) (w .capacity) (s .word .opens)
 
-  pub survey-long : length (w .radices) ≡ 48 → length (survey w) ≡ w .n
-  survey-long room = length-take-le (w .n) (w .radices) (omega arith)
+  pub survey-fills : length (w .directed .radices) ≡ 48 → length (survey w) ≡ w .directed .n
+  survey-fills = survey-long (openCheck (w .capacity)) (w .directed) (s .word)
 
-  pub ranged-moving : MovingSays (survey w) (w .moving)
-  ranged-moving = moving-says (survey w) (w .moving) (s .moving)
+  pub moving-known : MovingSays (survey w) (w .directed .moving)
+  moving-known = ranged-moving (openCheck (w .capacity)) (w .directed) (s .word)
 
-  pub moving-radices-most : length (w .radices) ≡ 48 → length (movingRadices w) ≤ 48
-  moving-radices-most room = let long = survey-long room in let few = unlocked-most (survey w) in let most = s .most in omega arith
+  pub moving-radices-most : length (w .directed .radices) ≡ 48 → length (movingRadices w) ≤ 48
+  moving-radices-most room =
+      let long = survey-fills room in let few = unlocked-most (survey w) in let most = s .word .most in omega arith
 
 -- ---- the work steps of a call
 -- a producer that a call has come to by x work steps
@@ -343,7 +323,7 @@ module _ (w : Walk) (s : Ranged w) where
   pub reached-none : length (w .producer .counter) ≡ 49 → length (w .producer .queue) ≡ 32 → Reached w 0 (w .producer)
   reached-none long wide = record { ahead = s .ahead; counter = long; queue = wide; steps = omega arith }
 
-  pub reached-more : length (w .radices) ≡ 48
+  pub reached-more : length (w .directed .radices) ≡ 48
       → (x : ℕ) (p : Producer)
       → Reached w x p
       → Reached w (x + 1) (work (movingRadices w) (w .capacity) p)
@@ -362,5 +342,5 @@ module _ (w : Walk) (s : Ranged w) where
 
   pub reached-twice : Arrays w → Reached w 2 (twice w)
   reached-twice a =
-      let first = reached-more (a .radices) 0 (w .producer) (reached-none (a .counter) (a .queue)) in
-      reached-more (a .radices) 1 (once w) first
+      let first = reached-more (a .directed .radices) 0 (w .producer) (reached-none (a .counter) (a .queue)) in
+      reached-more (a .directed .radices) 1 (once w) first

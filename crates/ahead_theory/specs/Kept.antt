@@ -8,8 +8,7 @@ use mathlib.Core.Bool.{Bool, true, false, cond}
 use mathlib.Core.Logic.{_⊎_, inl, inr}
 use lib.Dec.{eqb}
 use borrow.Author.Tests.{eq-eqb, ne-eqb}
-use lib.ListN.{length, getD, length-set}
-use lib.Seq.{getD-take}
+use lib.ListN.{length, getD}
 use Rattle.gray_theory.specs.Answers.{Answer, given, refused}
 use Rattle.gray_theory.specs.Bools.{impossible}
 use Rattle.gray_theory.specs.Changes.{Change}
@@ -17,12 +16,11 @@ use Rattle.gray_theory.specs.Engines.{Event, moved, after, refusedWith}
 use Rattle.gray_theory.specs.RunCalls.{refusal, runFrom}
 use Rattle.gray_theory.specs.SingleCalls.{stopped-run-leaves-its-moves}
 use Rattle.gray_theory.specs.Radices.{size}
-use Rattle.gray_theory.specs.DigitRanges.{digits-move-in-range}
-use Rattle.gray_theory.specs.Sizes.{radix-two}
-use Rattle.gray_theory.specs.Unlocked.{movingDigit, unlocked-two}
-use Rattle.ahead_theory.specs.States.{Producer, Walk, survey, movingRadices, producerInRange, stepLimit, inRange}
+use Rattle.gray_theory.specs.DirectedWords.{wordInRange, digitMoved}
+use Rattle.gray_theory.specs.WordRanges.{says-word, word-says, digit-there, move-keeps-range, move-keeps-rooms}
+use Rattle.ahead_theory.specs.States.{Producer, Walk, survey, movingRadices, openCheck, producerInRange, stepLimit, inRange, Arrays}
 use Rattle.ahead_theory.specs.Calls.{fresh, closedWalk, twice, Course, faulty, over, dry, removing, course, dequeued, endOf, moveOf, stepBy, stepOf}
-use Rattle.ahead_theory.specs.InRange.{Arrays, Ranged, ranged-moving, producer-says, dequeued-long, dequeued-in-range, range-says, says-range, survey-openable, survey-long, reached-twice}
+use Rattle.ahead_theory.specs.InRange.{Ranged, producer-says, dequeued-long, dequeued-in-range, range-says, says-range, survey-openable, survey-fills, moving-known, reached-twice}
 
 -- ---- calls
 -- the tests of a call, in their order
@@ -46,33 +44,33 @@ module _ (w : Walk) where
 
   -- a removal, of the entry after those of the digits that move, and of any other
   module _ (removes : course w ≡ removing) where
-    pub removes-last : getD (twice w .queue) 0 0 ≡ w .moving .count + 1 → stepOf w ≡ endOf w (dequeued (twice w))
+    pub removes-last : getD (twice w .queue) 0 0 ≡ w .directed .moving .count + 1 → stepOf w ≡ endOf w (dequeued (twice w))
     unfolding stepOf
-    removes-last e = ap (stepBy w) removes ∙ rw (eq-eqb (getD (twice w .queue) 0 0) (w .moving .count + 1) e)
+    removes-last e = ap (stepBy w) removes ∙ rw (eq-eqb (getD (twice w .queue) 0 0) (w .directed .moving .count + 1) e)
 
-    pub removes-digit : (getD (twice w .queue) 0 0 ≡ w .moving .count + 1 → ⊥)
-        → stepOf w ≡ moveOf w (getD (w .moving .digits) (getD (twice w .queue) 0 0 - 1) 0) (dequeued (twice w))
+    pub removes-digit : (getD (twice w .queue) 0 0 ≡ w .directed .moving .count + 1 → ⊥)
+        → stepOf w ≡ moveOf w (getD (w .directed .moving .digits) (getD (twice w .queue) 0 0 - 1) 0) (dequeued (twice w))
     unfolding stepOf
-    removes-digit e = ap (stepBy w) removes ∙ rw (ne-eqb (getD (twice w .queue) 0 0) (w .moving .count + 1) e)
+    removes-digit e = ap (stepBy w) removes ∙ rw (ne-eqb (getD (twice w .queue) 0 0) (w .directed .moving .count + 1) e)
 
 -- how a call on a state in range goes: it hands the state back, or it removes an entry, which ends the walk or moves a digit
-pub data Going (w : Walk) : Type 0 where
-  stays : stepOf w .state ≡ w → Going w
-  ends : w .ended ≡ false → 0 < twice w .queued → stepOf w ≡ endOf w (dequeued (twice w)) → Going w
+data CallGoes (w : Walk) : Type 0 where
+  stays : stepOf w .state ≡ w → CallGoes w
+  ends : w .ended ≡ false → 0 < twice w .queued → stepOf w ≡ endOf w (dequeued (twice w)) → CallGoes w
   moves : (k : ℕ)
       → w .ended ≡ false
       → 0 < twice w .queued
       → 1 ≤ k
-      → k ≤ w .n
-      → 2 ≤ getD (w .radices) (k - 1) 0
+      → k ≤ w .directed .n
+      → 2 ≤ getD (w .directed .radices) (k - 1) 0
       → stepOf w ≡ moveOf w k (dequeued (twice w))
-      → Going w
+      → CallGoes w
 
 -- an entry turned back into the number of its digit
 pub record EntryDigit (w : Walk) (k : ℕ) : Type 0 where
   pub from-one : 1 ≤ k
-  pub digit : k ≤ w .n
-  pub two : 2 ≤ getD (w .radices) (k - 1) 0
+  pub digit : k ≤ w .directed .n
+  pub two : 2 ≤ getD (w .directed .radices) (k - 1) 0
 
 pub entry-digit : (w : Walk)
     → Ranged w
@@ -80,39 +78,36 @@ pub entry-digit : (w : Walk)
     → (k : ℕ)
     → 1 ≤ k
     → k ≤ length (movingRadices w)
-    → EntryDigit w (getD (w .moving .digits) (k - 1) 0)
+    → EntryDigit w (getD (w .directed .moving .digits) (k - 1) 0)
 entry-digit w s a k low high =
-    let m = movingDigit (survey w) (survey-openable w s .survey .one) (k - 1) (omega arith) in
-    let is : getD (w .moving .digits) (k - 1) 0 ≡ suc (m .index) = ranged-moving w s .digits (k - 1) (omega arith) ∙ m .number in
-    let index : suc (m .index) - 1 ≡ m .index = omega arith in
-    let long = survey-long w s (a .radices) in
-    let inside = m .within in
-    let two = radix-two (movingRadices w) (k - 1) (unlocked-two (survey w)) (omega arith) in
-    let same : getD (w .radices) (m .index) 0 ≡ getD (movingRadices w) (k - 1) 0 =
-    sym (getD-take (w .n) (w .radices) (m .index) 0 (omega arith)) ∙ m .radix in
-    rw is (record { from-one = omega arith; digit = omega arith; two = rw index (omega arith) })
+    let many = moving-known w s .count in
+    let d =
+    digit-there (w .directed) (a .directed .radices) (s .word .most) (survey-openable w s .survey .one) (moving-known w s) (k - 1) (omega arith) in
+    let index : suc (d .index) - 1 ≡ d .index = omega arith in
+    let inside = d .within in
+    rw (d .number) (record { from-one = omega arith; digit = omega arith; two = rw index (d .two) })
 
-pub going : (w : Walk) → Arrays w → inRange w ≡ true → Going w
+call-goes : (w : Walk) → Arrays w → inRange w ≡ true → CallGoes w
 unfolding stepOf
-going w a ranged = go (w .ended) refl
+call-goes w a ranged = go (w .ended) refl
   where
-    go : (b : Bool) → w .ended ≡ b → Going w
+    go : (b : Bool) → w .ended ≡ b → CallGoes w
     go true e = stays (ap (λ c. stepBy w c .state) (goes-over w ranged e))
     go false e =
         elim (ℕ-discrete (twice w .queued) 0) [
           | yes z ↦ stays (ap (λ c. stepBy w c .state) (goes-dry w ranged e z))
           | no z ↦
               let s = range-says w ranged in
-              let long = survey-long w s (a .radices) in
+              let long = survey-fills w s (a .directed .radices) in
               let some : 0 < twice w .queued = omega arith in
               let removes = goes-removing w ranged e z in
               let place = producer-says (movingRadices w) (w .capacity) (twice w) (reached-twice w s a .ahead) .entries 0 some in
-              let many = ranged-moving w s .count in
-              elim (ℕ-discrete (getD (twice w .queue) 0 0) (w .moving .count + 1)) [
+              let many = moving-known w s .count in
+              elim (ℕ-discrete (getD (twice w .queue) 0 0) (w .directed .moving .count + 1)) [
                 | yes l ↦ ends e some (removes-last w removes l)
                 | no d ↦
                     let m = entry-digit w s a (getD (twice w .queue) 0 0) (place .from-one) (omega arith) in
-                    moves (getD (w .moving .digits) (getD (twice w .queue) 0 0 - 1) 0) e some
+                    moves (getD (w .directed .moving .digits) (getD (twice w .queue) 0 0 - 1) 0) e some
                     (m .from-one)
                     (m .digit)
                     (m .two)
@@ -133,8 +128,8 @@ module _ (w : Walk) (a : Arrays w) (ranged : inRange w ≡ true) where
       let limit : twice w .steps ≤ stepLimit (w .moves) false + 2 = rw going at (r .steps) in
       omega arith
 
-  range-after : Going w → stepOf w .state .moves < size (survey w) → inRange (stepOf w .state) ≡ true
-  unfolding endOf moveOf dequeued
+  range-after : CallGoes w → stepOf w .state .moves < size (survey w) → inRange (stepOf w .state) ≡ true
+  unfolding endOf moveOf dequeued digitMoved
   range-after (stays e) rank = rw e ranged
   range-after (ends going some e) rank =
       let s = range-says w ranged in
@@ -142,10 +137,7 @@ module _ (w : Walk) (a : Arrays w) (ranged : inRange w ≡ true) where
       ap (λ h. inRange (h .state)) e
       ∙ says-range (endOf w (dequeued (twice w)) .state)
       (record {
-        most = s .most;
-        opens = s .opens;
-        notches = s .notches;
-        moving = s .moving;
+        word = s .word;
         ahead = removed-in-range some;
         rank = s .rank;
         steps = omega arith;
@@ -156,31 +148,26 @@ module _ (w : Walk) (a : Arrays w) (ranged : inRange w ≡ true) where
       ap (λ h. inRange (h .state)) e
       ∙ says-range (moveOf w k (dequeued (twice w)) .state)
       (record {
-        most = s .most;
-        opens = s .opens;
-        notches =
-            digits-move-in-range (w .n) (w .radices) (w .word) (w .downs) (k - 1) (omega arith) (omega arith) (omega arith) two
-            (s .notches);
-        moving = s .moving;
+        word =
+            word-says (openCheck (w .capacity)) (digitMoved (w .directed) k)
+            (move-keeps-range (openCheck (w .capacity)) (w .directed) k (a .directed) low high two
+            (says-word (openCheck (w .capacity)) (w .directed) (s .word)));
         ahead = removed-in-range some;
         rank = rw e at rank;
         steps = omega arith;
       })
 
   pub range-kept : stepOf w .state .moves < size (survey w) → inRange (stepOf w .state) ≡ true
-  range-kept rank = range-after (going w a ranged) rank
+  range-kept rank = range-after (call-goes w a ranged) rank
 
-  arrays-after : Going w → Arrays (stepOf w .state)
+  arrays-after : CallGoes w → Arrays (stepOf w .state)
   unfolding endOf moveOf dequeued
   arrays-after (stays e) = subst Arrays (sym e) a
   arrays-after (ends going some e) =
       let r = reached-twice w (range-says w ranged) a in
       subst (λ h. Arrays (h .state)) (sym e)
       (record {
-        radices = a .radices;
-        moving = a .moving;
-        word = a .word;
-        downs = a .downs;
+        directed = a .directed;
         counter = r .counter;
         queue = dequeued-long (twice w) (omega arith) ∙ r .queue;
       })
@@ -188,16 +175,13 @@ module _ (w : Walk) (a : Arrays w) (ranged : inRange w ≡ true) where
       let r = reached-twice w (range-says w ranged) a in
       subst (λ h. Arrays (h .state)) (sym e)
       (record {
-        radices = a .radices;
-        moving = a .moving;
-        word = simp length-set (a .word);
-        downs = simp length-set (a .downs);
+        directed = move-keeps-rooms (w .directed) k (a .directed);
         counter = r .counter;
         queue = dequeued-long (twice w) (omega arith) ∙ r .queue;
       })
 
   pub arrays-kept : Arrays (stepOf w .state)
-  arrays-kept = arrays-after (going w a ranged)
+  arrays-kept = arrays-after (call-goes w a ranged)
 
 -- a state that has made N moves is out of range
 pub past-the-end : (w : Walk) → size (survey w) ≤ w .moves → stepOf w ≡ refusedWith 7 w
@@ -212,14 +196,14 @@ past-the-end w h = go (inRange w) refl
 one-move : (w : Walk) (c : Change) (o : Course)
     → stepBy w o .answer ≡ given (moved c)
     → (stepBy w o .state .moves ≡ w .moves + 1) × (survey (stepBy w o .state) ≡ survey w)
-unfolding endOf moveOf
+unfolding endOf moveOf digitMoved
 one-move w c faulty e = impossible (cc)
 one-move w c over e = impossible (cc)
 one-move w c dry e = impossible (cc)
-one-move w c removing e = by (eqb (getD (twice w .queue) 0 0) (w .moving .count + 1)) e
+one-move w c removing e = by (eqb (getD (twice w .queue) 0 0) (w .directed .moving .count + 1)) e
   where
     k : ℕ
-    k = getD (w .moving .digits) (getD (twice w .queue) 0 0 - 1) 0
+    k = getD (w .directed .moving .digits) (getD (twice w .queue) 0 0 - 1) 0
 
     p : Producer
     p = dequeued (twice w)
@@ -255,10 +239,10 @@ refused-call w y = by (course w)
     by faulty e = (refl, inl (sym (ap number e)))
     by over e = impossible (cc)
     by dry e = (refl, inr (sym (ap number e)))
-    by removing e = removed (eqb (getD (twice w .queue) 0 0) (w .moving .count + 1)) e
+    by removing e = removed (eqb (getD (twice w .queue) 0 0) (w .directed .moving .count + 1)) e
       where
         k : ℕ
-        k = getD (w .moving .digits) (getD (twice w .queue) 0 0 - 1) 0
+        k = getD (w .directed .moving .digits) (getD (twice w .queue) 0 0 - 1) 0
 
         p : Producer
         p = dequeued (twice w)
@@ -278,5 +262,5 @@ stopped-walk-leaves-its-moves w t x stopped =
 
 -- a closed walk has no survey: every call on it gets 7
 pub closed-gets-7 : stepOf closedWalk ≡ refusedWith 7 closedWalk
-unfolding stepOf course inRange fresh
+unfolding stepOf course inRange wordInRange fresh
 closed-gets-7 = refl

@@ -4,7 +4,7 @@
 pub mod States
 pub mod Work
 pub mod Calls
-pub mod Runs
+pub mod Events
 pub mod Pickups
 -- what is promised of whole runs, and the theorems
 pub mod Demand
@@ -17,7 +17,7 @@ pub mod Kept
 -- the run: its numbers and their invariants, the states that follow from them, one call, the events, the phases, the clauses
 pub mod Positions
 pub mod Canonical
-pub mod Ranged
+pub mod RunRanges
 pub mod Rounds
 pub mod Capacity
 pub mod Standing

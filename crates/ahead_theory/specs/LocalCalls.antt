@@ -13,14 +13,15 @@ use Rattle.gray_theory.specs.MoveBytes.{moveByte}
 use Rattle.gray_theory.specs.Changes.{Change}
 use Rattle.gray_theory.specs.Engines.{moved, ended, refusedWith}
 use Rattle.gray_theory.specs.Directions.{digitInRange, wordMoved, downsMoved}
+use Rattle.gray_theory.specs.DirectedWords.{digitMoved}
 use Rattle.gray_theory.specs.Locks.{unlocked}
 use Rattle.gray_theory.specs.Sizes.{radix-two}
 use Rattle.gray_theory.specs.DigitRanges.{allBelow-each, digit-says, DigitRange}
 use Rattle.gray_theory.specs.Unlocked.{movingDigit, moving-once, length-moving, unlocked-two}
-use Rattle.ahead_theory.specs.States.{Producer, Walk, survey, movingRadices, inRange}
+use Rattle.ahead_theory.specs.States.{Producer, Walk, survey, movingRadices, inRange, Arrays}
 use Rattle.ahead_theory.specs.Work.{work}
 use Rattle.ahead_theory.specs.Calls.{once, twice, course, removing, dequeued, endOf, moveOf, stepBy, stepOf}
-use Rattle.ahead_theory.specs.InRange.{Arrays, Ranged, range-says, survey-openable, survey-long, ranged-moving, moving-radices-most, producer-says, Reached, reached-none, reached-more, reached-twice}
+use Rattle.ahead_theory.specs.InRange.{Ranged, range-says, survey-openable, survey-fills, moving-known, moving-radices-most, producer-says, Reached, reached-none, reached-more, reached-twice}
 use Rattle.ahead_theory.specs.Kept.{goes-dry, goes-removing, removes-last, removes-digit, EntryDigit, entry-digit}
 use Rattle.ahead_theory.specs.Locals.{Fast, fastWork, fastTwice, TopsOf, Ahead, leftMoved, bytesMoved, Notches, Numbered, Stands, Called, fastCall}
 use Rattle.ahead_theory.specs.LocalWork.{fast-works, fast-removes}
@@ -28,28 +29,28 @@ use Rattle.ahead_theory.specs.LocalMoves.{notches-move}
 
 -- ---- the digits that move
 -- their numbers, in a state in range
-pub numbered : (w : Walk) → Ranged w → Arrays w → Numbered (w .moving .digits) (w .radices) (movingRadices w) (w .n)
+pub numbered : (w : Walk) → Ranged w → Arrays w → Numbered (w .directed .moving .digits) (w .directed .radices) (movingRadices w) (w .directed .n)
 numbered w s a =
     record {
       from-one = λ i h. at i h .from-one;
       within = λ i h. at i h .digit;
       radix = λ i h.
           let m = movingDigit (survey w) (survey-openable w s .survey .one) i h in
-          let is : getD (w .moving .digits) i 0 ≡ suc (m .index) = ranged-moving w s .digits i h ∙ m .number in
+          let is : getD (w .directed .moving .digits) i 0 ≡ suc (m .index) = moving-known w s .digits i h ∙ m .number in
           let index : suc (m .index) - 1 ≡ m .index = omega arith in
           let inside = m .within in
-          let long = survey-long w s (a .radices) in
-          rw (is, index) (sym (getD-take (w .n) (w .radices) (m .index) 0 (omega arith)) ∙ m .radix);
+          let long = survey-fills w s (a .directed .radices) in
+          rw (is, index) (sym (getD-take (w .directed .n) (w .directed .radices) (m .index) 0 (omega arith)) ∙ m .radix);
       once = λ i k h l e.
           let long = length-moving (survey w) in
           moving-once (survey w) i k (omega arith) (omega arith)
-          (sym (ranged-moving w s .digits i h) ∙ e ∙ ranged-moving w s .digits k l);
+          (sym (moving-known w s .digits i h) ∙ e ∙ moving-known w s .digits k l);
     }
   where
-    at : (i : ℕ) → i < length (movingRadices w) → EntryDigit w (getD (w .moving .digits) i 0)
+    at : (i : ℕ) → i < length (movingRadices w) → EntryDigit w (getD (w .directed .moving .digits) i 0)
     at i h =
         let j : i + 1 - 1 ≡ i = omega arith in
-        subst (λ k. EntryDigit w (getD (w .moving .digits) k 0)) j (entry-digit w s a (i + 1) (omega arith) (omega arith))
+        subst (λ k. EntryDigit w (getD (w .directed .moving .digits) k 0)) j (entry-digit w s a (i + 1) (omega arith) (omega arith))
 
 -- ---- a state that stands on the lists
 module _
@@ -63,11 +64,11 @@ module _
     same-radices = ap unlocked same-survey
 
     module _ (s : Ranged w) where
-      pub counted : w₀ .moving .count ≡ length (movingRadices w₀)
-      counted = ap (λ m. m .count) (sym (st .moving)) ∙ ranged-moving w s .count ∙ ap length same-radices
+      pub counted : w₀ .directed .moving .count ≡ length (movingRadices w₀)
+      counted = ap (λ m. m .count) (sym (st .moving)) ∙ moving-known w s .count ∙ ap length same-radices
 
       pub few-moving : Arrays w → length (movingRadices w₀) ≤ 48
-      few-moving a = rw same-radices at (moving-radices-most w s (a .radices))
+      few-moving a = rw same-radices at (moving-radices-most w s (a .directed .radices))
 
 -- ---- one call
 -- what a call leaves on the lists, after h removals before it, and what the engine's call says of the state w then
@@ -94,7 +95,7 @@ pub data Answered (w₀ w : Walk) (h : ℕ) (tops : List ℕ) (r : Called) : Typ
 module _
     (w₀ w : Walk) (h last c : ℕ) (tops left bytes : List ℕ) (f : Fast) (t : TopsOf (movingRadices w₀) tops)
     (ranged : inRange w ≡ true) (a : Arrays w) (going : w .ended ≡ false) (st : Stands w₀ w h tops left bytes f)
-    (room : h ≤ 1024) (last-is : last ≡ w₀ .moving .count + 1) (c-is : c ≡ w₀ .capacity)
+    (room : h ≤ 1024) (last-is : last ≡ w₀ .directed .moving .count + 1) (c-is : c ≡ w₀ .capacity)
   where
     abbrev g : Fast
     g = fastTwice tops last (h + c) f
@@ -112,7 +113,7 @@ module _
     alike : movingRadices w ≡ movingRadices w₀
     alike = same-radices w₀ w h tops left bytes f st
 
-    many : w₀ .moving .count ≡ length (movingRadices w₀)
+    many : w₀ .directed .moving .count ≡ length (movingRadices w₀)
     many = counted w₀ w h tops left bytes f st s
 
     few : length (movingRadices w₀) ≤ 48
@@ -138,7 +139,7 @@ module _
     ahead-twice : AheadOf (twice w) g
     ahead-twice =
         let none = reached-none w s (a .counter) (a .queue) in
-        stepped 1 (once w) (fastWork tops last (h + c) f) (reached-more w s (a .radices) 0 (w .producer) none)
+        stepped 1 (once w) (fastWork tops last (h + c) f) (reached-more w s (a .directed .radices) 0 (w .producer) none)
         (stepped 0 (w .producer) f none (st .ahead))
 
     -- ---- dry
@@ -159,7 +160,7 @@ module _
       oldest : getD (twice w .queue) 0 0 ≡ entry
       oldest = let z : h + 0 ≡ h = omega arith in ahead-twice .entries 0 (omega arith) ∙ ap (λ j. getD (g .queue) j 0) z
 
-      same-count : w .moving .count ≡ w₀ .moving .count
+      same-count : w .directed .moving .count ≡ w₀ .directed .moving .count
       same-count = ap (λ m. m .count) (st .moving)
 
       removed : Ahead (movingRadices w₀) tops (w₀ .producer .counter) (h + 1) (dequeued (twice w)) g
@@ -193,9 +194,9 @@ module _
         i = entry - 1
 
         abbrev d : ℕ
-        d = getD (w₀ .moving .digits) i 0
+        d = getD (w₀ .directed .moving .digits) i 0
 
-        entry-inside : (entry ≡ i + 1) × (i < w₀ .moving .count)
+        entry-inside : (entry ≡ i + 1) × (i < w₀ .directed .moving .count)
         entry-inside =
             let ahead = reached-twice w s a .ahead in
             let place = producer-says (movingRadices w) (w .capacity) (twice w) ahead .entries 0 queued in
@@ -211,14 +212,14 @@ module _
             removes-digit w removes (λ e. other (sym oldest ∙ e ∙ ap (λ k. k + 1) same-count ∙ sym last-is))
             ∙ ap₂ (λ m k. moveOf w (getD (m .digits) (k - 1) 0) (dequeued (twice w))) (st .moving) oldest
 
-        numbers : Numbered (w₀ .moving .digits) (w₀ .radices) (movingRadices w₀) (w₀ .n)
+        numbers : Numbered (w₀ .directed .moving .digits) (w₀ .directed .radices) (movingRadices w₀) (w₀ .directed .n)
         numbers =
-            subst (λ k. Numbered (w₀ .moving .digits) (w₀ .radices) (movingRadices w₀) k) (st .n)
-            (subst (λ l. Numbered (w₀ .moving .digits) (w₀ .radices) l (w .n)) alike
-            (subst (λ l. Numbered (w₀ .moving .digits) l (movingRadices w) (w .n)) (st .radices)
-            (subst (λ m. Numbered (m .digits) (w .radices) (movingRadices w) (w .n)) (st .moving) (numbered w s a))))
+            subst (λ k. Numbered (w₀ .directed .moving .digits) (w₀ .directed .radices) (movingRadices w₀) k) (st .n)
+            (subst (λ l. Numbered (w₀ .directed .moving .digits) (w₀ .directed .radices) l (w .directed .n)) alike
+            (subst (λ l. Numbered (w₀ .directed .moving .digits) l (movingRadices w) (w .directed .n)) (st .radices)
+            (subst (λ m. Numbered (m .digits) (w .directed .radices) (movingRadices w) (w .directed .n)) (st .moving) (numbered w s a))))
 
-        radix-there : getD tops (i + 1) 0 + 1 ≡ getD (w₀ .radices) (d - 1) 0
+        radix-there : getD tops (i + 1) 0 + 1 ≡ getD (w₀ .directed .radices) (d - 1) 0
         radix-there =
             let (at, inside) = entry-inside in
             let n = many in
@@ -226,7 +227,7 @@ module _
             ∙ List·getD-append (movingRadices w₀) (2 ∷ []) 0 i (omega arith)
             ∙ sym (numbers .radix i (omega arith))
 
-        two-there : 2 ≤ getD (w₀ .radices) (d - 1) 0
+        two-there : 2 ≤ getD (w₀ .directed .radices) (d - 1) 0
         two-there =
             let (at, inside) = entry-inside in
             let n = many in
@@ -234,21 +235,21 @@ module _
             let r = numbers .radix i (omega arith) in
             omega arith
 
-        range-there : DigitRange (getD (w₀ .radices) (d - 1) 0) (getD (w .word) (d - 1) 0) (getD (w .downs) (d - 1) false)
+        range-there : DigitRange (getD (w₀ .directed .radices) (d - 1) 0) (getD (w .directed .word) (d - 1) 0) (getD (w .directed .downs) (d - 1) false)
         range-there =
             let (at, inside) = entry-inside in
             let n = many in
             let from = numbers .from-one i (omega arith) in
             let to = numbers .within i (omega arith) in
             let same = st .n in
-            subst (λ l. DigitRange (getD l (d - 1) 0) (getD (w .word) (d - 1) 0) (getD (w .downs) (d - 1) false)) (st .radices)
-            (digit-says (getD (w .radices) (d - 1) 0) (getD (w .word) (d - 1) 0) (getD (w .downs) (d - 1) false)
-            (allBelow-each (w .n) (λ j. digitInRange (getD (w .radices) j 0) (getD (w .word) j 0) (getD (w .downs) j false))
-            (s .notches)
+            subst (λ l. DigitRange (getD l (d - 1) 0) (getD (w .directed .word) (d - 1) 0) (getD (w .directed .downs) (d - 1) false)) (st .radices)
+            (digit-says (getD (w .directed .radices) (d - 1) 0) (getD (w .directed .word) (d - 1) 0) (getD (w .directed .downs) (d - 1) false)
+            (allBelow-each (w .directed .n) (λ j. digitInRange (getD (w .directed .radices) j 0) (getD (w .directed .word) j 0) (getD (w .directed .downs) j false))
+            (s .word .notches)
             (d - 1)
             (omega arith)))
 
-        move-says : stepOf w .answer ≡ given (moved (record { digit = d; down = getD (w .downs) (d - 1) false }))
+        move-says : stepOf w .answer ≡ given (moved (record { digit = d; down = getD (w .directed .downs) (d - 1) false }))
         unfolding moveOf
         move-says = ap (λ s. s .answer) moves-here
 
@@ -256,38 +257,38 @@ module _
         unfolding moveOf
         move-leaves = (ap (λ s. s .state .ended) moves-here, ap (λ s. s .state .moves) moves-here)
 
-        byte-there : getD bytes entry 0 ≡ moveByte d (getD (w .downs) (d - 1) false)
+        byte-there : getD bytes entry 0 ≡ moveByte d (getD (w .directed .downs) (d - 1) false)
         byte-there =
             let (at, inside) = entry-inside in ap (λ j. getD bytes j 0) at ∙ st .notches .each i inside .shows
 
         abbrev NotchesMoved : List ℕ → ℕ → Type 0
         NotchesMoved l j =
-            Notches (w₀ .moving .digits) (w₀ .moving .count) tops (w₀ .word) (w₀ .downs)
-            (wordMoved (w .word) (w .downs) (d - 1))
-            (downsMoved l (w .word) (w .downs) (d - 1))
+            Notches (w₀ .directed .moving .digits) (w₀ .directed .moving .count) tops (w₀ .directed .word) (w₀ .directed .downs)
+            (wordMoved (w .directed .word) (w .directed .downs) (d - 1))
+            (downsMoved l (w .directed .word) (w .directed .downs) (d - 1))
             (leftMoved tops left j)
             (bytesMoved left bytes j)
 
-        notches-there : NotchesMoved (w .radices) entry
+        notches-there : NotchesMoved (w .directed .radices) entry
         notches-there =
             let (at, inside) = entry-inside in
-            let most = s .most in
+            let most = s .word .most in
             let same = st .n in
             let n = many in
             let l = few in
-            subst (NotchesMoved (w .radices)) (sym at)
+            subst (NotchesMoved (w .directed .radices)) (sym at)
             (subst (λ l. NotchesMoved l (i + 1)) (sym (st .radices))
-            (notches-move (w₀ .moving .digits) (w₀ .radices) (movingRadices w₀) (w₀ .n) (w₀ .moving .count) tops (w₀ .word)
-            (w₀ .downs)
-            (w .word)
-            (w .downs)
+            (notches-move (w₀ .directed .moving .digits) (w₀ .directed .radices) (movingRadices w₀) (w₀ .directed .n) (w₀ .directed .moving .count) tops (w₀ .directed .word)
+            (w₀ .directed .downs)
+            (w .directed .word)
+            (w .directed .downs)
             left
             bytes
             numbers
             n
             (omega arith)
-            (a .word)
-            (a .downs)
+            (a .directed .word)
+            (a .directed .downs)
             (omega arith)
             (st .notches)
             i
@@ -297,7 +298,7 @@ module _
             range-there))
 
         moved-stands : Stands w₀ (stepOf w .state) (h + 1) tops (leftMoved tops left entry) (bytesMoved left bytes entry) g
-        unfolding moveOf
+        unfolding moveOf digitMoved
         moved-stands =
             subst (λ z. Stands w₀ (z .state) (h + 1) tops (leftMoved tops left entry) (bytesMoved left bytes entry) g)
             (sym moves-here)
@@ -325,7 +326,7 @@ module _
                 | no other ↦
                     let (on, made) = move-leaves some other in
                     rw (ne-eqb (g .tail) h some, ne-eqb entry last other)
-                    (moves refl (record { digit = d some other; down = getD (w .downs) (d some other - 1) false })
+                    (moves refl (record { digit = d some other; down = getD (w .directed .downs) (d some other - 1) false })
                     (move-says some other)
                     (byte-there some other)
                     on

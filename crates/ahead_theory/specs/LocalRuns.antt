@@ -13,10 +13,10 @@ use Rattle.gray_theory.specs.Changes.{Change}
 use Rattle.gray_theory.specs.Radices.{size}
 use Rattle.gray_theory.specs.Engines.{moved, ended, after, refusedWith}
 use Rattle.gray_theory.specs.RunLaws.{Moved, moved-more}
-use Rattle.ahead_theory.specs.States.{Walk, survey, movingRadices, stepLimit, inRange}
+use Rattle.ahead_theory.specs.States.{Walk, survey, movingRadices, stepLimit, inRange, Arrays}
 use Rattle.ahead_theory.specs.Calls.{stepOf}
-use Rattle.ahead_theory.specs.Runs.{state}
-use Rattle.ahead_theory.specs.InRange.{Arrays, range-says, survey-openable, producer-says}
+use Rattle.ahead_theory.specs.Events.{state}
+use Rattle.ahead_theory.specs.InRange.{range-says, survey-openable, producer-says}
 use Rattle.ahead_theory.specs.Kept.{range-kept, arrays-kept}
 use Rattle.ahead_theory.specs.Locals.{Fast, TopsOf, Stands, Called, FastRan, fastThen, fastCall, fastRun}
 use Rattle.ahead_theory.specs.LocalCalls as calls
@@ -192,7 +192,7 @@ module _ (w₀ : Walk) (tops : List ℕ) (done h : ℕ) where
 -- ---- a stretch
 pub stretch-is-the-run : (w₀ : Walk) (tops : List ℕ) (last c : ℕ)
     → TopsOf (movingRadices w₀) tops
-    → last ≡ w₀ .moving .count + 1
+    → last ≡ w₀ .directed .moving .count + 1
     → c ≡ w₀ .capacity
     → (limit done h : ℕ) (f : Fast) (left bytes : List ℕ)
     → OnWay w₀ done
@@ -231,7 +231,7 @@ pub stands-bounded : (w₀ w : Walk) (h : ℕ) (tops left bytes : List ℕ) (f :
     → inRange w ≡ true
     → Arrays w
     → Stands w₀ w h tops left bytes f
-    → Bounded (w₀ .moving .count + 1) f
+    → Bounded (w₀ .directed .moving .count + 1) f
 stands-bounded w₀ w h tops left bytes f ranged a st =
     let s = range-says w ranged in
     let here = producer-says (movingRadices w) (w .capacity) (w .producer) (s .ahead) .at in

@@ -159,9 +159,9 @@ pub record Numbered (digits radices ms : List ℕ) (n : ℕ) : Type 0 where
 
 -- the state w, in a run from w₀
 pub record Stands (w₀ w : Walk) (h : ℕ) (tops left bytes : List ℕ) (f : Fast) : Type 0 where
-  pub radices : w .radices ≡ w₀ .radices
-  pub n : w .n ≡ w₀ .n
-  pub moving : w .moving ≡ w₀ .moving
+  pub radices : w .directed .radices ≡ w₀ .directed .radices
+  pub n : w .directed .n ≡ w₀ .directed .n
+  pub moving : w .directed .moving ≡ w₀ .directed .moving
   pub capacity : w .capacity ≡ w₀ .capacity
   pub ahead : Ahead (movingRadices w₀) tops (w₀ .producer .counter) h (w .producer) f
-  pub notches : Notches (w₀ .moving .digits) (w₀ .moving .count) tops (w₀ .word) (w₀ .downs) (w .word) (w .downs) left bytes
+  pub notches : Notches (w₀ .directed .moving .digits) (w₀ .directed .moving .count) tops (w₀ .directed .word) (w₀ .directed .downs) (w .directed .word) (w .directed .downs) left bytes

@@ -18,7 +18,7 @@ use Rattle.gray_theory.specs.Capacities.{Openable}
 use Rattle.ahead_theory.specs.States.{Walk}
 use Rattle.ahead_theory.specs.Work.{Work}
 use Rattle.ahead_theory.specs.Calls.{Course, removing, course, stepBy, stepOf}
-use Rattle.ahead_theory.specs.Runs.{state, answer, eventsBy, events}
+use Rattle.ahead_theory.specs.Events.{state, answer, eventsBy, events}
 use Rattle.ahead_theory.specs.GoingOn.{NamesFrom}
 use Rattle.ahead_theory.specs.Positions.{buffered, Position, Worked, Worked.carried, Worked.appended, Worked.idled, Worked.spent, stepsAt, Ahead, Behind, work-position, work-steps, gain-small, ahead-work, ahead-remove, ahead-queued, behind-work, behind-remove, behind-queued}
 use Rattle.ahead_theory.specs.Rounds.{stepsAfter, running, Round, round, dry-call, removing-call, move-call, end-call}

@@ -5,13 +5,12 @@ use native.Mathlib.Nat.{zero-add}
 use native.Mathlib.Omega.{arith}
 use mathlib.Core.Path.{_≡_, refl, sym, ap, subst, _∙_}
 use mathlib.Core.Logic.{_↔_}
-use mathlib.Core.Bool.{Bool, true, false, not}
+use mathlib.Core.Bool.{true, false, not}
 use mathlib.Core.List.{List}
 use borrow.Author.Tests.{not-false}
 use lib.ListN.{length}
-use Rattle.gray_theory.specs.Bools.{impossible}
 use Rattle.gray_theory.specs.Answers.{Answer, given, refused, refusing}
-use Rattle.gray_theory.specs.Radices.{digits, size, wrongCount, wrongRadix, tooMany}
+use Rattle.gray_theory.specs.Radices.{digits, size}
 use Rattle.gray_theory.specs.Words.{isWord, rank}
 use Rattle.gray_theory.specs.Changes.{change}
 use Rattle.gray_theory.specs.Ranks.{rank-below, wordAt-of-rank}
@@ -20,14 +19,14 @@ use Rattle.gray_theory.specs.Locks.{unlocked}
 use Rattle.gray_theory.specs.Sizes.{size-pos}
 use Rattle.gray_theory.specs.Indexed.{downsAt}
 use Rattle.gray_theory.specs.Unlocked.{size-unlocked}
-use Rattle.gray_theory.specs.Refusals.{passed}
-use Rattle.gray_theory.specs.Capacities.{Openable, wrongCapacity, ofSurvey}
-use Rattle.gray_theory.specs.Refusals.{within-openable, openable-passes}
+use Rattle.gray_theory.specs.Capacities.{Openable}
+use Rattle.gray_theory.specs.Refusals.{passed, within-openable, openable-passes, refused-alike}
+use Rattle.gray_theory.specs.Openings.{opening-answers-its-check, accepted-opening-opens, refused-opening-keeps}
 use Rattle.gray_theory.specs.Engines.{moved, ended}
 use Rattle.ahead_theory.specs.States.{Walk, openCheck}
-use Rattle.ahead_theory.specs.Calls.{fresh, openWith, openOf}
-use Rattle.ahead_theory.specs.Runs.{state, answer}
-use Rattle.ahead_theory.specs.Pickups.{resumeCheck, unfilled, fill, downsFromStart, pickedUp, resumeWith, resumeOf}
+use Rattle.ahead_theory.specs.Calls.{fresh, openOf}
+use Rattle.ahead_theory.specs.Events.{state, answer}
+use Rattle.ahead_theory.specs.Pickups.{resumeCheck, unfilled, fill, downsFromStart, pickedUp, resumeOf}
 use Rattle.ahead_theory.specs.GoingOn.{GoesOn, Does, Does.names, Does.is-end, Does.is-dry, KeepsToTheList, rebuffered, Agrees}
 use Rattle.ahead_theory.specs.Openings.{opens-exactly, opens-fresh}
 use Rattle.ahead_theory.specs.Positions.{buffered}
@@ -56,7 +55,7 @@ pub downs-from-start : (ms : List ℕ) (c : ℕ) → Openable ms c → (r : ℕ)
 downs-from-start ms c v r below =
     let most = buffered v .most in
     let wide : Openable ms 32 = record { survey = v .survey; place = omega arith; capacity = omega arith } in
-    ap (λ (u : Walk). u .downs) (fresh-at ms 32 wide (omega arith) r below .is-state)
+    ap (λ (u : Walk). u .directed .downs) (fresh-at ms 32 wide (omega arith) r below .is-state)
 
 -- ---- the state
 module _ (ms : List ℕ) (c : ℕ) (v : Openable ms c) (word : List ℕ) (is-word : isWord ms word ≡ true) where
@@ -76,11 +75,9 @@ module _ (ms : List ℕ) (c : ℕ) (v : Openable ms c) (word : List ℕ) (is-wor
   pub picked-up-is : pickedUp ms c word ≡ running ms c 0 r q 0
   unfolding pickedUp
   picked-up-is =
-      same-walk
-      (ap (filled 48 0) (sym (wordAt-of-rank ms word is-word)))
-      (downs-from-start ms c v r below)
-      (filled-ahead (unlocked ms) c (buffered v) r below-moving)
-      refl
+      let word-is = ap (filled 48 0) (sym (wordAt-of-rank ms word is-word)) in
+      let downs-are = downs-from-start ms c v r below in
+      same-walk (cc (word-is, downs-are)) (filled-ahead (unlocked ms) c (buffered v) r below-moving) refl
 
   placed : Placed ms c r (pickedUp ms c word)
   placed =
@@ -144,79 +141,51 @@ resumable ms c word e =
 passes : (ms : List ℕ) (c : ℕ) (word : List ℕ) → Openable ms c → isWord ms word ≡ true → resumeCheck ms c word ≡ given tt
 passes ms c word o e = openable-passes ms c (refusing 8 (not (isWord ms word)) (given tt)) o ∙ rw e
 
-accepted-given : (w : Walk) (ms : List ℕ) (c : ℕ) (word : List ℕ) (a : Answer Unit) → resumeWith w ms c word a .answer ≡ given tt → a ≡ given tt
-accepted-given w ms c word (given u) e = e
-accepted-given w ms c word (refused k) e = impossible (cc)
+module _ (w : Walk) (radices : List ℕ) (c : ℕ) (word : List ℕ) where
+  abbrev opened : Walk
+  opened = pickedUp (digits radices) c (digits word)
 
--- it is accepted exactly if survey and capacity could be opened and the word is a setting of the survey
-pub resumes-exactly : (w : Walk) (radices : List ℕ) (c : ℕ) (word : List ℕ)
-    → (resumeOf w radices c word .answer ≡ given tt) ↔ (Openable (digits radices) c × (isWord (digits radices) (digits word) ≡ true))
-unfolding resumeOf
-resumes-exactly w radices c word = (
-  λ e. resumable (digits radices) c (digits word) (accepted-given w (digits radices) c (digits word) (resumeCheck (digits radices) c (digits word)) e),
-  λ o. ap (λ (a : Answer Unit). resumeWith w (digits radices) c (digits word) a .answer) (passes (digits radices) c (digits word) (o .0) (o .1)),
-)
+  abbrev check : Answer Unit
+  check = resumeCheck (digits radices) c (digits word)
 
--- it then hands back the picked-up state, whatever state it was made on
-pub resumes-picked-up : (w : Walk) (radices : List ℕ) (c : ℕ) (word : List ℕ)
-    → resumeOf w radices c word .answer ≡ given tt
-    → resumeOf w radices c word .state ≡ pickedUp (digits radices) c (digits word)
-unfolding resumeOf
-resumes-picked-up w radices c word e =
-    ap (λ (a : Answer Unit). resumeWith w (digits radices) c (digits word) a .state)
-    (accepted-given w (digits radices) c (digits word) (resumeCheck (digits radices) c (digits word)) e)
+  answers-check : resumeOf w radices c word .answer ≡ check
+  unfolding resumeOf
+  answers-check = opening-answers-its-check _ _ check
 
-refused-given-back : (w : Walk) (ms : List ℕ) (c : ℕ) (word : List ℕ) (a : Answer Unit) (k : ℕ)
-    → resumeWith w ms c word a .answer ≡ refused k
-    → resumeWith w ms c word a .state ≡ w
-refused-given-back w ms c word (given u) k e = impossible (cc)
-refused-given-back w ms c word (refused i) k e = refl
+  -- it is accepted exactly if survey and capacity could be opened and the word is a setting of the survey
+  pub resumes-exactly : (resumeOf w radices c word .answer ≡ given tt)
+      ↔ (Openable (digits radices) c × (isWord (digits radices) (digits word) ≡ true))
+  resumes-exactly = (
+    λ e. resumable (digits radices) c (digits word) (sym answers-check ∙ e),
+    λ o. answers-check ∙ passes (digits radices) c (digits word) (o .0) (o .1),
+  )
 
--- a refused one hands back the state as it came
-pub refused-resuming-keeps-the-state : (w : Walk) (radices : List ℕ) (c : ℕ) (word : List ℕ) (k : ℕ)
-    → resumeOf w radices c word .answer ≡ refused k
-    → resumeOf w radices c word .state ≡ w
-unfolding resumeOf
-refused-resuming-keeps-the-state w radices c word k e =
-    refused-given-back w (digits radices) c (digits word) (resumeCheck (digits radices) c (digits word)) k e
+  -- it then hands back the picked-up state, whatever state it was made on
+  pub resumes-picked-up : resumeOf w radices c word .answer ≡ given tt → resumeOf w radices c word .state ≡ opened
+  unfolding resumeOf
+  resumes-picked-up = accepted-opening-opens _ _ check
 
-same-refusal : (ms : List ℕ) (c k : ℕ) (rest : Answer Unit) → openCheck ms c ≡ refused k → ofSurvey ms c rest ≡ refused k
-same-refusal ms c k rest e = by (wrongCount ms) (wrongRadix ms) (tooMany ms) (wrongCapacity c) e
-  where
-    by : (a b m w : Bool)
-        → _≡_ {A = Answer Unit} (refusing 2 a (refusing 3 b (refusing 4 m (refusing 5 w (given tt))))) (refused k)
-        → refusing 2 a (refusing 3 b (refusing 4 m (refusing 5 w rest))) ≡ refused k
-    by true b m w e = let t : 2 ≡ k = cc in ap refused t
-    by false true m w e = let t : 3 ≡ k = cc in ap refused t
-    by false false true w e = let t : 4 ≡ k = cc in ap refused t
-    by false false false true e = let t : 5 ≡ k = cc in ap refused t
-    by false false false false e = impossible (cc)
+  -- a refused one hands back the state as it came
+  pub refused-resuming-keeps-the-state : (k : ℕ) → resumeOf w radices c word .answer ≡ refused k → resumeOf w radices c word .state ≡ w
+  unfolding resumeOf
+  refused-resuming-keeps-the-state = refused-opening-keeps _ _ check
 
--- a survey and a capacity that opening refuses get the same number here, whatever the word is
-pub refused-as-opening : (w : Walk) (radices : List ℕ) (c : ℕ) (word : List ℕ) (k : ℕ)
-    → openOf w radices c .answer ≡ refused k
-    → resumeOf w radices c word .answer ≡ refused k
-unfolding resumeOf openOf
-refused-as-opening w radices c word k e =
-    let ms = digits radices in
-    ap (λ (a : Answer Unit). resumeWith w ms c (digits word) a .answer)
-    (same-refusal ms c k (refusing 8 (not (isWord ms (digits word))) (given tt)) (by (openCheck ms c) refl e))
-  where
-    by : (a : Answer Unit) → openCheck (digits radices) c ≡ a → openWith w (digits radices) c a .answer ≡ refused k → openCheck (digits radices) c ≡ refused k
-    by (given u) f g = impossible (cc)
-    by (refused i) f g = f ∙ g
+  -- a survey and a capacity that opening refuses get the same number here, whatever the word is
+  pub refused-as-opening : (k : ℕ) → openOf w radices c .answer ≡ refused k → resumeOf w radices c word .answer ≡ refused k
+  unfolding openOf
+  refused-as-opening k e =
+      let ms = digits radices in
+      answers-check
+      ∙ refused-alike ms c tt (refusing 8 (not (isWord ms (digits word))) (given tt)) k
+      (sym (opening-answers-its-check _ _ (openCheck c ms)) ∙ e)
 
--- where opening accepts them, a word that is no setting gets 8
-pub wrong-setting-gets-8 : (w : Walk) (radices : List ℕ) (c : ℕ) (word : List ℕ)
-    → Openable (digits radices) c
-    → isWord (digits radices) (digits word) ≡ false
-    → resumeOf w radices c word .answer ≡ refused 8
-unfolding resumeOf
-wrong-setting-gets-8 w radices c word o e =
-    let ms = digits radices in
-    let wrong : resumeCheck ms c (digits word) ≡ refused 8 =
-    openable-passes ms c (refusing 8 (not (isWord ms (digits word))) (given tt)) o ∙ rw e in
-    ap (λ (a : Answer Unit). resumeWith w ms c (digits word) a .answer) wrong
+  -- where opening accepts them, a word that is no setting gets 8
+  pub wrong-setting-gets-8 : Openable (digits radices) c
+      → isWord (digits radices) (digits word) ≡ false
+      → resumeOf w radices c word .answer ≡ refused 8
+  wrong-setting-gets-8 o e =
+      let ms = digits radices in
+      answers-check ∙ openable-passes ms c (refusing 8 (not (isWord ms (digits word))) (given tt)) o ∙ rw e
 
 -- ---- what is promised
 -- Every walk that is picked up, with places for half of the digits that move, rounded up, goes on from the rank of its setting: each

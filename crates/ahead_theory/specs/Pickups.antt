@@ -5,18 +5,18 @@ use mathlib.Core.Bool.{Bool, false, cond, not, _&&_}
 use mathlib.Core.List.{List, [], _∷_, _++_}
 use lib.Dec.{eqb, ltb}
 use lib.ListN.{length, getD, replicate}
-use Rattle.gray_theory.specs.Answers.{Answer, given, refused, refusing}
+use Rattle.gray_theory.specs.Answers.{Answer, given, refusing}
 use Rattle.gray_theory.specs.Radices.{digits, mixedDigits}
 use Rattle.gray_theory.specs.Words.{isWord, rank}
 use Rattle.gray_theory.specs.Arrays.{filled}
 use Rattle.gray_theory.specs.Locks.{unlocked, movingDigits}
 use Rattle.gray_theory.specs.Capacities.{ofSurvey}
 use Rattle.gray_theory.specs.Directions.{allBelow}
-use Rattle.gray_theory.specs.Engines.{Handed, refusedWith}
+use Rattle.gray_theory.specs.Engines.{Handed, openWith}
 use Rattle.ahead_theory.specs.States.{Producer, Walk}
 use Rattle.ahead_theory.specs.Work.{work}
 use Rattle.ahead_theory.specs.Calls.{fresh}
-use Rattle.ahead_theory.specs.Runs.{state}
+use Rattle.ahead_theory.specs.Events.{state}
 
 -- the checks: refusals 2 to 5 as in opening, and then 8, a word that is no setting of the survey
 abbrev pub resumeCheck : List ℕ → ℕ → List ℕ → Answer Unit
@@ -57,29 +57,29 @@ filledAt ms c r = uncounted (fill ms c (fillSteps ms c) (unfilled ms r))
 -- ---- the call
 -- the directions that the walk from the start has at rank r; 32 places are enough for every survey
 abbrev pub downsFromStart : List ℕ → ℕ → List Bool
-downsFromStart ms r = state (fresh ms 32) r .downs
+downsFromStart ms r = state (fresh ms 32) r .directed .downs
 
 -- the state at a setting: j is its rank
 abbrev pub standing : List ℕ → ℕ → List ℕ → ℕ → Walk
 standing ms c word r = record {
-  radices = filled 48 0 ms;
-  n = length ms;
-  moving = movingDigits ms;
-  word = filled 48 0 word;
-  capacity = c;
-  downs = downsFromStart ms r;
-  ended = false;
+  directed =
+      record {
+        radices = filled 48 0 ms;
+        n = length ms;
+        moving = movingDigits ms;
+        word = filled 48 0 word;
+        downs = downsFromStart ms r;
+      };
   producer = filledAt (unlocked ms) c r;
+  capacity = c;
   moves = r;
+  ended = false;
 }
 
 unfoldable pub pickedUp : List ℕ → ℕ → List ℕ → Walk
 pickedUp ms c word = standing ms c word (rank ms word)
 
--- a refused call hands back the state as it came
-abbrev pub resumeWith : Walk → List ℕ → ℕ → List ℕ → Answer Unit → Handed Walk Unit
-resumeWith w ms c word (given u) = record { state = pickedUp ms c word; answer = given u }
-resumeWith w ms c word (refused k) = refusedWith k w
-
+-- it is an opening too: a refused call hands back the state as it came
 unfoldable pub resumeOf : Walk → List ℕ → ℕ → List ℕ → Handed Walk Unit
-resumeOf w radices c word = resumeWith w (digits radices) c (digits word) (resumeCheck (digits radices) c (digits word))
+resumeOf w radices c word =
+    openWith w (pickedUp (digits radices) c (digits word)) (resumeCheck (digits radices) c (digits word))

@@ -15,18 +15,18 @@ use Rattle.gray_theory.specs.Rulers.{ruler-pos, ruler-at-end}
 use Rattle.gray_theory.specs.Turns.{Advances, walk-advances}
 use Rattle.gray_theory.specs.Engines.{moved, ended}
 use Rattle.gray_theory.specs.Arrays.{filled}
-use Rattle.gray_theory.specs.WalkArrays.{word-array-moved, down-array-moved, change-named}
-use Rattle.gray_theory.specs.Filled.{take-filled, filled-drop}
+use Rattle.gray_theory.specs.WordRanges.{survey-at, directed-moves, directed-change}
+use Rattle.gray_theory.specs.Filled.{filled-drop}
 use Rattle.ahead_theory.specs.States.{Producer, Walk, movingRadices, places, inRange}
 use Rattle.ahead_theory.specs.Work.{Work, kind, done, work}
 use Rattle.ahead_theory.specs.Calls.{once, twice, dry, removing, course, dequeued, endOf, moveOf, stepOf}
-use Rattle.ahead_theory.specs.Runs.{eventsBy}
+use Rattle.ahead_theory.specs.Events.{eventsBy}
 use Rattle.ahead_theory.specs.Kept.{goes-dry, goes-removing, removes-last, removes-digit}
 use Rattle.ahead_theory.specs.Counters.{cleared}
 use Rattle.gray_theory.specs.Capacities.{Openable}
 use Rattle.ahead_theory.specs.Positions.{buffered, Position, Worked, one, gained, work-position}
-use Rattle.ahead_theory.specs.Canonical.{entries, length-entries, entries-first, same-producer, same-walk, producerAt, walkAt, Does, does}
-use Rattle.ahead_theory.specs.Ranged.{producer-ranged, state-ranged}
+use Rattle.ahead_theory.specs.Canonical.{entries, length-entries, entries-first, same-producer, same-walk, producerAt, walkAt, WorksTo, does}
+use Rattle.ahead_theory.specs.RunRanges.{producer-ranged, state-ranged}
 
 -- the state of a running walk
 abbrev pub running : List ℕ → ℕ → ℕ → ℕ → ℕ → ℕ → Walk
@@ -51,18 +51,18 @@ abbrev pub stepsAfter : {ms : List ℕ} {c s t k p : ℕ} → Round ms c s t k p
 stepsAfter {s = s} r = s + gained (r .e₁) + gained (r .e₂)
 
 pub work-is : {ws : List ℕ} {c s t k p : ℕ} {e : Work} {k′ p′ : ℕ}
-    → Does ws c s t k p e k′ p′
+    → WorksTo ws c s t k p e k′ p′
     → work ws c (producerAt ws s t k p) ≡ producerAt ws (s + gained e) t k′ p′
 work-is {ws} {c} {s} {t} {k} {p} d = ap (λ (e : Work). done e (producerAt ws s t k p)) (d .is-kind) ∙ d .leaves
 
 joined : {ms : List ℕ} {c s t k p : ℕ} {e₁ e₂ : Work} {k₁ p₁ k₂ p₂ : ℕ}
-    → Does (unlocked ms) c s t k p e₁ k₁ p₁
-    → Does (unlocked ms) c (s + gained e₁) t k₁ p₁ e₂ k₂ p₂
+    → WorksTo (unlocked ms) c s t k p e₁ k₁ p₁
+    → WorksTo (unlocked ms) c (s + gained e₁) t k₁ p₁ e₂ k₂ p₂
     → Round ms c s t k p
 joined {ms} {c} {s} {t} {k} {p} {e₁} {e₂} {k₁} {p₁} {k₂} {p₂} d₁ d₂ =
     let w : Walk = running ms c s t k p in
     let ws : List ℕ = unlocked ms in
-    let l : movingRadices w ≡ ws = ap unlocked (take-filled 48 0 ms) in
+    let l : movingRadices w ≡ ws = ap unlocked (survey-at ms t) in
     let o : once w ≡ producerAt ws (s + gained e₁) t k₁ p₁ = ap (λ (h : List ℕ). work h c (producerAt ws s t k p)) l ∙ work-is d₁ in
     let kind₁ : kind (movingRadices w) c (producerAt ws s t k p) ≡ e₁ = ap (λ (h : List ℕ). kind h c (producerAt ws s t k p)) l ∙ d₁ .is-kind in
     let kind₂ : kind (movingRadices w) c (once w) ≡ e₂ = ap₂ (λ (h : List ℕ) (q : Producer). kind h c q) l o ∙ d₂ .is-kind in
@@ -112,11 +112,9 @@ move-is : (ms : List ℕ) (c t i : ℕ) (q left : Producer)
     ≡ record { state = walkAt ms c (suc t) false left; answer = given (moved (change ms (suc t))) }
 unfolding moveOf
 move-is ms c t i q left a below =
-    let index : suc i - 1 ≡ i = omega arith in
-    rw index
-    (ap₂ (λ (u : Walk) (n : Change). record { state = u; answer = given (moved n) })
-    (same-walk (word-array-moved ms t i a) (down-array-moved ms t i a) refl (add-one t))
-    (sym (change-named ms t i a below)))
+    ap₂ (λ (u : Walk) (n : Change). record { state = u; answer = given (moved n) })
+    (same-walk (directed-moves ms t i a) refl (add-one t))
+    (directed-change ms t i a below)
 
 -- ---- one call
 -- a call on a running state goes as its queue has it after the two work steps

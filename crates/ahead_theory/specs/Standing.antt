@@ -7,8 +7,7 @@ use mathlib.Core.List.{List}
 use Rattle.gray_theory.specs.Answers.{given}
 use Rattle.gray_theory.specs.Radices.{size}
 use Rattle.gray_theory.specs.Words.{member}
-use Rattle.gray_theory.specs.Members.{member-is-wordAt}
-use Rattle.gray_theory.specs.WalkArrays.{take-word-array}
+use Rattle.gray_theory.specs.WordRanges.{member-at}
 use Rattle.gray_theory.specs.Capacities.{Openable}
 use Rattle.gray_theory.specs.Locks.{unlocked}
 use Rattle.gray_theory.specs.Engines.{ended}
@@ -16,7 +15,7 @@ use Rattle.ahead_theory.specs.States.{Producer, Walk, setting, inRange}
 use Rattle.ahead_theory.specs.Calls.{Course, course, stepBy, stepOf}
 use Rattle.ahead_theory.specs.Demand.{Within}
 use Rattle.ahead_theory.specs.Kept.{goes-over}
-use Rattle.ahead_theory.specs.Ranged.{producer-ranged, state-ranged}
+use Rattle.ahead_theory.specs.RunRanges.{producer-ranged, state-ranged}
 use Rattle.ahead_theory.specs.Positions.{buffered, Position, stepsAt}
 use Rattle.ahead_theory.specs.Canonical.{producerAt, walkAt}
 use Rattle.ahead_theory.specs.Rounds.{running, running-ranged}
@@ -48,7 +47,7 @@ pub record Over (ms : List ℕ) (c t : ℕ) (w : Walk) : Type 0 where
 
 -- the setting that a state of the run holds
 setting-is : (ms : List ℕ) (c t : ℕ) (over : Bool) (q : Producer) → t < size ms → setting (walkAt ms c t over q) ≡ member ms t
-setting-is ms c t over q below = take-word-array ms t ∙ sym (member-is-wordAt ms t below)
+setting-is ms c t over q below = member-at ms t below
 
 module _ (ms : List ℕ) (c t : ℕ) (w : Walk) where
   pub placed-setting : Placed ms c t w → setting w ≡ member ms t

@@ -1,15 +1,15 @@
--- The state of the buffered engine and when it is in range (document 01, "The buffered engine"). Its arrays have digit 1 first,
--- and room for 48 digits; what they hold past digit n plays no part.
+-- The state of the buffered engine and when it is in range (document 01, "The buffered engine").
 use Prim.Native.Nat.{ℕ, _+_, _*_}
+use mathlib.Core.Path.{_≡_}
 use mathlib.Core.Bool.{Bool, cond, _&&_}
 use mathlib.Core.List.{List, [], _∷_, _++_}
 use lib.Dec.{ltb, leb}
-use lib.ListN.{length, getD, take}
-use Rattle.gray_theory.specs.Answers.{Answer, given, isGiven}
+use lib.ListN.{length, getD}
+use Rattle.gray_theory.specs.Answers.{Answer, given}
 use Rattle.gray_theory.specs.Radices.{size}
-use Rattle.gray_theory.specs.Locks.{MovingDigits, unlocked, movingInRange}
 use Rattle.gray_theory.specs.Capacities.{ofSurvey}
-use Rattle.gray_theory.specs.Directions.{allBelow, digitsInRange}
+use Rattle.gray_theory.specs.Directions.{allBelow}
+use Rattle.gray_theory.specs.DirectedWords.{DirectedWord, Rooms, surveyIn, settingIn, movingIn, wordInRange}
 
 -- ---- the state
 -- what work steps change: the counter, the place that it has come to, the queue, how many entries that holds, and the useful
@@ -21,34 +21,36 @@ pub record Producer : Type 0 where
   pub queued : ℕ
   pub steps : ℕ
 
--- the state: the producer, the moves made (j), the survey (radices and their number n), the capacity c, the word (setting), the
--- directions (down or not), whether the walk has ended, and the digits that move, in rising order
+-- the state: what both engines keep (survey, word, directions), the producer, the capacity c, the moves made (j), and whether the
+-- walk has ended
 pub record Walk : Type 0 where
+  pub directed : DirectedWord
   pub producer : Producer
-  pub moves : ℕ
-  pub radices : List ℕ
-  pub n : ℕ
-  pub moving : MovingDigits
-  pub word : List ℕ
   pub capacity : ℕ
-  pub downs : List Bool
+  pub moves : ℕ
   pub ended : Bool
+
+-- the lengths that the arrays of a state have
+pub record Arrays (w : Walk) : Type 0 where
+  pub directed : Rooms (w .directed)
+  pub counter : length (w .producer .counter) ≡ 49
+  pub queue : length (w .producer .queue) ≡ 32
 
 -- ---- the survey
 -- the checks of an opening: refusals 2, 3, 4 of the survey, then 5
-abbrev pub openCheck : List ℕ → ℕ → Answer Unit
-openCheck ms c = ofSurvey ms c (given tt)
+abbrev pub openCheck : ℕ → List ℕ → Answer Unit
+openCheck c ms = ofSurvey ms c (given tt)
 
 -- the survey and the setting that a state holds
 abbrev pub survey : Walk → List ℕ
-survey w = take (w .n) (w .radices)
+survey w = surveyIn (w .directed)
 
 abbrev pub setting : Walk → List ℕ
-setting w = take (w .n) (w .word)
+setting w = settingIn (w .directed)
 
 -- the radices of the digits that move: work steps, counter and buffer rule run over those alone
 abbrev pub movingRadices : Walk → List ℕ
-movingRadices w = unlocked (survey w)
+movingRadices w = movingIn (w .directed)
 
 -- the counter's radices: those of the digits that move, and 2 for one place more
 abbrev pub places : List ℕ → List ℕ
@@ -82,13 +84,9 @@ stepLimit j ended = 2 * j + cond ended 2 0
 -- document 01: the survey and c could be opened; each a_i < m_i; the direction is up at 0 and down at m_i − 1; b_i < m_i; i and
 -- the queue's entries lie in 1 to n + 1; the queue holds at most c; j ≤ N − 1; and s ≤ 2 j, or 2 j + 2 once ended. Document 02: the
 -- digits that move are those of the survey; a locked digit is at 0 and up; counter, place and entries are over the digits that move.
--- (A state has no room for more than 48 digits, whatever its n.)
 unfoldable pub inRange : Walk → Bool
 inRange w =
-    leb (w .n) 48
-    && isGiven (openCheck (survey w) (w .capacity))
-    && digitsInRange (w .n) (w .radices) (w .word) (w .downs)
-    && movingInRange (survey w) (w .moving)
+    wordInRange (openCheck (w .capacity)) (w .directed)
     && producerInRange (movingRadices w) (w .capacity) (w .producer)
     && ltb (w .moves) (size (survey w))
     && leb (w .producer .steps) (stepLimit (w .moves) (w .ended))

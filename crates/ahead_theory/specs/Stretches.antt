@@ -12,12 +12,12 @@ use lib.Seq.{getD-set-same, getD-set-other, ext-getD}
 use Rattle.ahead_theory.specs.Locals.{Fast, Called, FastRan, restAt, carried, appended, fastWork, fastTwice, fastCall, fastRun}
 
 -- ---- what a work step does
-pub data FastStep (tops : List ℕ) (last : ℕ) (f g : Fast) : Type 0 where
+data FastStep (tops : List ℕ) (last : ℕ) (f g : Fast) : Type 0 where
   carries : restAt f ≡ 0 → g ≡ carried tops f → FastStep tops last f g
   appends : g ≡ appended f → FastStep tops last f g
   idles : g ≡ f → FastStep tops last f g
 
-pub fast-step : (tops : List ℕ) (last bound : ℕ) (f : Fast) → FastStep tops last f (fastWork tops last bound f)
+fast-step : (tops : List ℕ) (last bound : ℕ) (f : Fast) → FastStep tops last f (fastWork tops last bound f)
 unfolding fastWork
 fast-step tops last bound f =
     elim (ℕ-discrete (restAt f) 0) [
@@ -122,7 +122,7 @@ module _ (tops : List ℕ) (last bound : ℕ) (f : Fast) where
       })
 
   -- the tail never goes back
-  pub tail-first : f .tail ≤ g2 .tail
+  tail-first : f .tail ≤ g2 .tail
   tail-first =
       let one = tail-grows tops last f g1 (fast-step tops last bound f) in
       let two = tail-grows tops last g1 g2 (fast-step tops last bound g1) in

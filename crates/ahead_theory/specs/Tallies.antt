@@ -8,7 +8,7 @@ use Rattle.gray_theory.specs.Radices.{allFrom}
 use Rattle.gray_theory.specs.Costs.{cost}
 use Rattle.gray_theory.specs.Bounds.{entry-costs-ruler, cost-below-double}
 use Rattle.ahead_theory.specs.Work.{Work, carry, append, idle}
-use Rattle.ahead_theory.specs.Runs.{useful, appends}
+use Rattle.ahead_theory.specs.Events.{useful, appends}
 use Rattle.ahead_theory.specs.Demand.{Finished}
 use Rattle.ahead_theory.specs.Positions.{Worked, Worked.carried, Worked.appended, Worked.idled, Worked.spent, stepsAt, one}
 
@@ -94,7 +94,7 @@ tally-same {ms} {a} {u} {t} {k} {p} {es} e k′ p′ more queued costs r =
     let n = r .entries in
     record { steps = omega arith; entries = omega arith; costs = costed-more ms a u es e (r .costs) costs }
 
-pub tally-work : {ms : List ℕ} {c a u t k p : ℕ} {e : Work} {k′ p′ : ℕ} {es : List Work}
+tally-work : {ms : List ℕ} {c a u t k p : ℕ} {e : Work} {k′ p′ : ℕ} {es : List Work}
     → allFrom 2 ms ≡ true
     → Worked ms c t k p e k′ p′
     → Tallied ms a u t k p es

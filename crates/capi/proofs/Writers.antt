@@ -4,7 +4,7 @@ use mathlib.Core.Path.{_≡_, ap, _∙_}
 use mathlib.Core.List.{List}
 use Rattle.gray_theory.specs.Answers.{Answer, Wrote}
 use Rattle.gray_theory.specs.RunCalls.{Outcome}
-use Rattle.runs_theory.specs.Runs.{Moves}
+use Rattle.runs_theory.specs.MoveCalls.{Moves}
 use Rattle.capi.specs.Encoding.{encoded, Sent, runCode, movesMade, Ran}
 
 pub sent : (call : ℕ → Answer (List ℕ)) (w : Answer ℕ) (r : ℕ) (before after : List ℕ)

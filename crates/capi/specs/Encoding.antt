@@ -1,11 +1,12 @@
--- One encoding of answers, as numbers of 64 bits: the value, or minus the number of a refusal, which C reads as a negative int64_t.
+-- One encoding of answers, as numbers of 64 bits: the value, or minus the number of a refusal, which C reads as a negative
+-- int64_t.
 use Prim.Native.Nat.{ℕ, _-_, _^_, _%_}
 use mathlib.Core.Path.{_≡_}
 use mathlib.Core.List.{List}
 use lib.ListN.{length}
 use Rattle.gray_theory.specs.Answers.{Answer, given, refused, byteCount, outputAfter}
 use Rattle.gray_theory.specs.RunCalls.{Stop, nothing, end, refusal, Outcome}
-use Rattle.runs_theory.specs.Runs.{Moves}
+use Rattle.runs_theory.specs.MoveCalls.{Moves}
 
 abbrev pub encoded : Answer ℕ → ℕ
 encoded (given value) = value
@@ -18,7 +19,7 @@ pub record Sent (call : ℕ → Answer (List ℕ)) (result : ℕ) (before after 
 
 -- ---- runs of moves
 -- 0 where all moves were made, 1 at the end of the walk, and minus the number of a call that was refused
-abbrev pub stopCode : Stop → ℕ
+abbrev stopCode : Stop → ℕ
 stopCode nothing = 0
 stopCode end = 1
 stopCode (refusal k) = encoded (refused k)

@@ -24,8 +24,8 @@ codes-tell-answers-apart (refused k) (refused l) (number o s) (number o′ s′)
     let same : k ≡ l = omega arith in ap (λ i. refused i) same
 
 -- ---- runs of moves
--- what a run of a walk from the start or from a setting can say: all moves made, the end after so many, dry after so many, or refused
--- by a number below 10
+-- what a run of a walk from the start or from a setting can say: all moves made, the end after so many, dry after so many, or
+-- refused by a number below 10
 pub data Tells : Answer Outcome → Type 0 where
   all : {k : ℕ} → Tells (given (record { made = k; stop = nothing }))
   over : {k : ℕ} → Tells (given (record { made = k; stop = end }))

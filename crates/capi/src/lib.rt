@@ -1,5 +1,5 @@
-// The calls for C and Rust: numbers and byte slices only, each result one number of 64 bits. Each function is thin: it calls the
-// library and encodes the answer. outside/include/gray.h declares them.
+// The calls for C and Rust: numbers and byte slices only, each result one number of 64 bits. Each function is thin: it calls
+// the library and encodes the answer. outside/include/gray.h declares them.
 use gray::Counted;
 use gray::Ranked;
 use gray::Running;
@@ -12,7 +12,7 @@ ghost use Rattle.gray.specs.Enums.{countedAs, rankedAs, writtenAs, runningAs};
 ghost use Rattle.lister_theory.specs.Calls.{listCall};
 ghost use Rattle.movelog_theory.specs.Calls.{writeCall, readCall};
 ghost use Rattle.movelog.specs.Enums.{readingAs};
-ghost use Rattle.runs_theory.specs.Runs.{walkMovesCall, resumedMovesCall, diskMovesCall};
+ghost use Rattle.runs_theory.specs.MoveCalls.{walkMovesCall, resumedMovesCall, diskMovesCall};
 ghost use Rattle.capi.specs.Encoding.{encoded, Sent, runCode, movesMade, Ran};
 
 // Minus a refusal's number, as C has it in 64 bits.

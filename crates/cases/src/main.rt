@@ -19,18 +19,20 @@
 //     disks run MOVES, LENT
 //
 // Radices and words have digit n first. A writer is lent LENT bytes of 9, 256 at the most; they are printed as they are
-// afterwards. The states of both engines are kept from line to line, and at first no survey is open. A step, a run and a walk that is
-// picked up print the state that they hand back. Between calls one field of a state can be changed, to make up another; such a line has no outcome:
+// afterwards. The states of both engines are kept from line to line, and at first no survey is open. A step, a run and a walk
+// that is picked up print the state that they hand back. Between calls one field of a state can be changed, to make up another;
+// such a line has no outcome:
 //
 //     walk FIELD, VALUE                       n, moving, capacity, place, queued, steps, moves, ended
 //     walk FIELD NUMBER, VALUE                radix, number, digit, down, counter, entry
 //     disks FIELD, VALUE                      n, moving, turn
 //     disks FIELD NUMBER, VALUE               radix, number, digit, down, peg
 //
-// Digits are numbered from 1, and so are the queue's entries, the oldest first, and the digits that move, the fastest first: `moving`
-// says how many they are, and `number` gives the number of each. For `down` (a direction) and `ended` 1 is yes.
+// Digits are numbered from 1, and so are the queue's entries, the oldest first, and the digits that move, the fastest first:
+// `moving` says how many they are, and `number` gives the number of each. For `down` (a direction) and `ended` 1 is yes.
 
 use ahead::Producer;
+use ahead::Progress;
 use ahead::Walk;
 use bytes::scan::find;
 use digit::MovingDigits;
@@ -179,23 +181,23 @@ fn print_field(name: u64, n: u64) {
     print_number(b" ", n);
 }
 
-fn least(a: usize, b: usize) -> usize
+fn min(a: usize, b: usize) -> usize
     ensures { λ r. ⌜ (r ≤ a) × (r ≤ b) ⌝ }
 {
     if a < b { a } else { b }
 }
 
 // n, or how many bytes there are where they are fewer.
-fn within(n: u64, bytes: &[u8]) -> usize
+fn min_len(n: u64, bytes: &[u8]) -> usize
     ensures { λ r. ⌜ Counts r (now (bytes .entry)) ⌝ }
 {
-    least(n as usize, bytes.len())
+    min(n as usize, bytes.len())
 }
 
 // A field that has a byte for each of n digits, digit n first.
 fn print_digits(name: u64, bytes: &[u8], n: u64) {
     print_name(name);
-    let mut i = within(n, bytes);
+    let mut i = min_len(n, bytes);
     while 0 < i {
         i -= 1;
         print_item(bytes[i]);
@@ -212,7 +214,7 @@ fn print_direction(down: bool) {
 
 fn print_directions(downs: &[bool], n: u64) {
     print_name(DOWN);
-    let mut i = least(n as usize, downs.len());
+    let mut i = min(n as usize, downs.len());
     while 0 < i {
         i -= 1;
         print_item(downs[i] as u8);
@@ -223,7 +225,7 @@ fn print_directions(downs: &[bool], n: u64) {
 fn print_counted(name: u64, count: u8, each: u64, bytes: &[u8]) {
     print_field(name, wide(count));
     print_name(each);
-    let n = within(wide(count), bytes);
+    let n = min_len(wide(count), bytes);
     print_bytes(&bytes[..n]);
 }
 
@@ -241,10 +243,11 @@ fn print_survey(n: u64, radices: &[u8], moving: MovingDigits, word: &[u8], downs
 fn print_producer(moving: u8, producer: Producer) {
     let counter = producer.counter;
     let queue = producer.queue;
+    let at = producer.at;
     print_digits(COUNTER, &counter, wide(moving) + 1);
-    print_field(PLACE, wide(producer.place));
-    print_counted(QUEUED, producer.queued, ENTRY, &queue);
-    print_field(STEPS, producer.steps);
+    print_field(PLACE, wide(at.place));
+    print_counted(QUEUED, at.queued, ENTRY, &queue);
+    print_field(STEPS, at.steps);
 }
 
 fn print_walk(walk: Walk) {
@@ -464,7 +467,7 @@ fn write_case(name: u64, radices: &[u8], from: u64, count: u64, out: &mut [u8]) 
 // A writer's call with as many lent bytes as are said, 256 at the most.
 fn lent_case(name: u64, radices: &[u8], from: u64, count: u64, lent: u64) {
     let mut out = [9u8; 256];
-    let k = within(lent, &out);
+    let k = min_len(lent, &out);
     write_case(name, radices, from, count, &mut out[..k]);
 }
 
@@ -540,14 +543,18 @@ fn moving_with(moving: MovingDigits, name: u64, i: usize, value: u8) -> MovingDi
 fn producer_with(producer: Producer, name: u64, i: usize, value: u8) -> Producer {
     let mut counter = producer.counter;
     let mut queue = producer.queue;
+    let at = producer.at;
     put(name == COUNTER, &mut counter, i, value);
     put(name == ENTRY, &mut queue, i, value);
+    let changed = Progress {
+        place: either(name == PLACE, value, at.place),
+        queued: either(name == QUEUED, value, at.queued),
+        steps: at.steps,
+    };
     Producer {
         counter: counter,
-        place: either(name == PLACE, value, producer.place),
+        at: changed,
         queue: queue,
-        queued: either(name == QUEUED, value, producer.queued),
-        steps: producer.steps,
     }
 }
 
@@ -617,7 +624,9 @@ fn walk_counted(walk: Walk, name: u64, value: u64) -> Walk {
         return next;
     }
     let mut producer = walk.producer;
-    producer.steps = value;
+    let mut at = producer.at;
+    at.steps = value;
+    producer.at = at;
     next.producer = producer;
     next
 }
@@ -747,7 +756,7 @@ fn run_case(held: Held, engine: u64, t: u64, lent: u64) -> Held {
     let mut walk = held.walk;
     let mut towers = held.towers;
     let mut out = [9u8; 256];
-    let k = within(lent, &out);
+    let k = min_len(lent, &out);
     if engine == WALK {
         walk = run_walk(walk, t, &mut out[..k]);
     } else {

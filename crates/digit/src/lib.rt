@@ -1,7 +1,7 @@
 // Single digits: the byte of a move, the range rule and the move that both engines make, and bytes as an engine's array.
 use gray::DIGITS;
 ghost use mathlib.Core.Path.{_≡_};
-ghost use Prim.Native.Nat.{_<_, _≤_, _+_};
+ghost use Prim.Native.Nat.{_<_, _+_};
 ghost use mathlib.Core.Bool.{_&&_, _||_};
 ghost use lib.Dec.{eqb, ltb, leb};
 ghost use lib.ListN.{length, take, getD};

@@ -4,6 +4,8 @@
 // engine how many of its settings and moves agree, and whether it ends after the last word.
 
 use ahead::Walk;
+use engines::Engine;
+use gray::DIGITS;
 use gray::Opening;
 use gray::Ranked;
 use gray::Stepping;
@@ -12,18 +14,6 @@ use towers::Towers;
 ghost use mathlib.Core.Path.{_≡_};
 ghost use Prim.Native.Nat.{_≤_, _<_};
 ghost use lib.ListN.{length};
-
-// One of the engines, the disk engine if `disks`; the other stays closed.
-struct Engine {
-    walk: Walk,
-    towers: Towers,
-    disks: bool,
-}
-
-struct Called {
-    engine: Engine,
-    answer: Stepping,
-}
 
 // How many words agreed with their rank, with the word of their rank and with the lister's.
 struct Tally {
@@ -36,7 +26,7 @@ struct Tally {
 struct Walked {
     settings: u64,
     moves: u64,
-    end: bool,
+    ended: bool,
 }
 
 fn print(text: &[u8]) {
@@ -79,7 +69,7 @@ fn print_bytes(bytes: &[u8]) {
 
 // A decimal digit's value; at least 10 for any other byte.
 fn digit(byte: u8) -> u8 {
-    if byte < 48 { 255 } else { byte - 48 }
+    if byte < b'0' { 255 } else { byte - b'0' }
 }
 
 // Takes the words from lines of n digits each, and gives how many; 0 unless they are such lines and just fill `words`.
@@ -90,7 +80,7 @@ fn read_words(lines: &[u8], n: usize, radix: u8, words: &mut [u8]) -> u64 {
     let mut i = 0;
     while i < lines.len() {
         let d = digit(lines[i]);
-        let ends = lines[i] == 10;
+        let ends = lines[i] == b'\n';
         i += 1;
         if column < n {
             if radix <= d {
@@ -146,7 +136,7 @@ fn wrote(answer: Written, count: usize) -> bool {
 
 // Before the call the lent bytes are no digits of either list.
 fn is_word_of(radices: &[u8], word: &[u8], rank: u64) -> bool {
-    let mut out = [9u8; 48];
+    let mut out = [9u8; DIGITS];
     let answer = gray::word(radices, rank, &mut out);
     wrote(answer, word.len()) & starts_with(&out, word)
 }
@@ -187,40 +177,8 @@ fn hold_words(radices: &[u8], words: &[u8], total: u64)
     print_line(b"list ", agreed.lists);
 }
 
-impl Engine {
-    fn setting(self) -> [u8; 48] {
-        let walk = self.walk;
-        let towers = self.towers;
-        if self.disks { towers.word } else { walk.word }
-    }
-
-    fn step(self) -> Called {
-        let mut walk = self.walk;
-        let mut towers = self.towers;
-        let mut answer = Stepping::Refused(0);
-        if self.disks {
-            let stepped = towers.step();
-            towers = stepped.towers;
-            answer = stepped.answer;
-        } else {
-            let stepped = walk.step();
-            walk = stepped.walk;
-            answer = stepped.answer;
-        }
-        let engine = Engine {
-            walk: walk,
-            towers: towers,
-            disks: self.disks,
-        };
-        Called {
-            engine: engine,
-            answer: answer,
-        }
-    }
-}
-
 // Whether a setting, with digit 1 first, is the word and zeros past its digits.
-fn is_setting_of(setting: [u8; 48], word: &[u8]) -> bool {
+fn is_setting_of(setting: [u8; DIGITS], word: &[u8]) -> bool {
     starts_with(&setting, &digit::reversed(word))
 }
 
@@ -237,7 +195,7 @@ fn leads(from: &[u8], to: &[u8], k: u8, down: bool) -> bool {
     if k == 0 {
         return false;
     }
-    if 48 < k {
+    if digit::MOST < k {
         return false;
     }
     let i = wide(k) - 1;
@@ -273,24 +231,25 @@ fn walk(opened: Engine, n: usize, words: &[u8]) -> Walked
     requires { ⌜ 0 < n ⌝ }
 {
     let mut engine = opened;
-    let mut answer = Stepping::Refused(0);
     let mut settings = 0;
     let mut moves = 0;
+    let mut ended = false;
     let mut at = 0;
     while n <= words.len() - at {
         let next = at + n;
         let word = &words[at..next];
         settings += one(is_setting_of(engine.setting(), word));
-        let called = engine.step();
-        engine = called.engine;
-        answer = called.answer;
+        let stepped = engine.step();
+        engine = stepped.engine;
+        let answer = stepped.answer;
         moves += one(is_move(answer, word, &words[next..]));
+        ended = is_end(answer);
         at = next;
     }
     Walked {
         settings: settings,
         moves: moves,
-        end: is_end(answer),
+        ended: ended,
     }
 }
 
@@ -302,7 +261,7 @@ fn print_walk(opening: Opening, walked: Walked) {
     print_number(walked.settings);
     print(b", moves ");
     print_number(walked.moves);
-    if walked.end {
+    if walked.ended {
         print(b", end\n");
     } else {
         print(b", no end\n");
@@ -317,13 +276,8 @@ fn hold_buffered(radices: &[u8], words: &[u8])
     let opened = Walk::closed().open(radices, n - n / 2);
     let answer = opened.answer;
     let fresh = opened.walk;
-    let engine = Engine {
-        walk: fresh,
-        towers: Towers::closed(),
-        disks: false,
-    };
     print(b"buffered engine: ");
-    print_walk(answer, walk(engine, n, words));
+    print_walk(answer, walk(Engine::of_walk(fresh), n, words));
 }
 
 fn hold_disks(radices: &[u8], words: &[u8])
@@ -332,13 +286,8 @@ fn hold_disks(radices: &[u8], words: &[u8])
     let opened = Towers::closed().open(radices);
     let answer = opened.answer;
     let fresh = opened.towers;
-    let engine = Engine {
-        walk: Walk::closed(),
-        towers: fresh,
-        disks: true,
-    };
     print(b"disk engine: ");
-    print_walk(answer, walk(engine, radices.len(), words));
+    print_walk(answer, walk(Engine::of_towers(fresh), radices.len(), words));
 }
 
 fn print_heading(figure: &[u8], radices: &[u8], total: u64) {

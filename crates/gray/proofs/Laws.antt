@@ -24,7 +24,7 @@ use Rattle.gray_theory.specs.Indexed.{wordAt}
 use Rattle.gray_theory.specs.Members.{member-is-wordAt, length-wordAt}
 use Rattle.gray_theory.specs.Ranks.{rank-below}
 use Rattle.gray_theory.specs.Digits.{digits-more, size-taken, isWord-taken, word-long}
-use Rattle.gray_theory.specs.Sizes.{allFrom-weaker, size-append}
+use Rattle.gray_theory.specs.Sizes.{size-append}
 use Rattle.gray_theory.specs.Bools.{impossible}
 
 -- ---- none_zero
@@ -258,7 +258,7 @@ pub fine-says : (b : Bool) → checkedAs b ≡ Fine → b ≡ true
 fine-says true e = refl
 fine-says false e = impossible (cc)
 
-pub refused-says : (b : Bool) (k : ℕ) → checkedAs b ≡ CheckRefused k → (b ≡ false) × (8 ≡ k)
+refused-says : (b : Bool) (k : ℕ) → checkedAs b ≡ CheckRefused k → (b ≡ false) × (8 ≡ k)
 refused-says true k e = impossible (cc)
 refused-says false k e = (refl, cc)
 

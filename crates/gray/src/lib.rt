@@ -341,10 +341,10 @@ pub fn word(radices: &[u8], rank: u64, out: &mut [u8]) -> Written
     ensures { λ r. ⌜ Wrote (wordCall (now (radices .entry)) rank) (writtenAs r) (now (out .entry)) (now (out .exit)) ⌝ }
 {
     let counted = size(radices);
-    let Counted::Size(n) = counted else {
+    let Counted::Size(total) = counted else {
         return Written::Refused(counted.number());
     };
-    if n <= rank {
+    if total <= rank {
         return Written::Refused(8);
     }
     if out.len() < radices.len() {

@@ -98,7 +98,7 @@ turned-in-range m b down below at-0 at-top apart =
     ]
 
 -- a digit that moves in its direction, and turns where it must, stands in range again
-pub digit-moves-in-range : (m a : ℕ) (down : Bool)
+digit-moves-in-range : (m a : ℕ) (down : Bool)
     → 2 ≤ m
     → digitInRange m a down ≡ true
     → digitInRange m (movedFrom a down) (turnedAt m (movedFrom a down) down) ≡ true
@@ -115,7 +115,7 @@ digit-moves-in-range m a false two e =
 
 -- ---- all digits
 -- one digit's notch and direction are replaced by others in range: all digits stand in range
-pub digits-set-in-range : (n : ℕ) (radices word : List ℕ) (downs : List Bool) (i a : ℕ) (down : Bool)
+digits-set-in-range : (n : ℕ) (radices word : List ℕ) (downs : List Bool) (i a : ℕ) (down : Bool)
     → n ≤ length word
     → n ≤ length downs
     → digitInRange (getD radices i 0) a down ≡ true

@@ -20,11 +20,11 @@ use Rattle.gray_theory.specs.Sizes.{size-pos, allFrom-append, size-appen
 pub digits-more : (l : List ℕ) (i : ℕ) → i < length l → digits (take (i + 1) l) ≡ getD l i 0 ∷ digits (take i l)
 digits-more l i h = rw (add-one i) (ap digits (take-suc l i 0 h) ∙ reverse-append (take i l) (getD l i 0 ∷ []))
 
-pub digits-split : (l : List ℕ) (i : ℕ) → digits l ≡ digits (drop i l) ++ digits (take i l)
+digits-split : (l : List ℕ) (i : ℕ) → digits l ≡ digits (drop i l) ++ digits (take i l)
 digits-split l i = ap digits (sym (take-append-drop i l)) ∙ reverse-append (take i l) (drop i l)
 
 -- ---- lists one after another
-pub isWord-append : (a u b v : List ℕ) → length a ≡ length u → isWord (a ++ b) (u ++ v) ≡ isWord a u && isWord b v
+isWord-append : (a u b v : List ℕ) → length a ≡ length u → isWord (a ++ b) (u ++ v) ≡ isWord a u && isWord b v
 unfolding isWord
 isWord-append [] [] b v e = refl
 isWord-append [] (x ∷ u) b v e = absurd (omega arith)
@@ -41,7 +41,7 @@ isWord-length (m ∷ ms) (a ∷ w) e = ap suc (isWord-length ms w (and-eq-true-i
 
 -- ---- the slowest i digits
 -- every radix is at least k: those of the first i bytes, those of the rest, and each
-pub allFrom-parts : (k : ℕ) (l : List ℕ) (i : ℕ)
+allFrom-parts : (k : ℕ) (l : List ℕ) (i : ℕ)
     → allFrom k (digits l) ≡ true
     → (allFrom k (digits (drop i l)) ≡ true) × (allFrom k (digits (take i l)) ≡ true)
 allFrom-parts k l i e =

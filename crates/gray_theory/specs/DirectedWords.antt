@@ -2,6 +2,7 @@
 -- for each digit, and, as document 02 adds, the digits that move. The arrays have digit 1 first, and room for 48 digits; what they
 -- hold past digit n plays no part.
 use Prim.Native.Nat.{ℕ, _-_}
+use mathlib.Core.Path.{_≡_}
 use mathlib.Core.Bool.{Bool, false, _&&_}
 use mathlib.Core.List.{List}
 use lib.Dec.{leb}
@@ -19,6 +20,13 @@ pub record DirectedWord : Type 0 where
   pub moving : MovingDigits
   pub word : List ℕ
   pub downs : List Bool
+
+-- the lengths that its arrays have
+pub record Rooms (d : DirectedWord) : Type 0 where
+  pub radices : length (d .radices) ≡ 48
+  pub moving : length (d .moving .digits) ≡ 48
+  pub word : length (d .word) ≡ 48
+  pub downs : length (d .downs) ≡ 48
 
 -- the radices of all digits, and of those that move; the word of the digits there are
 abbrev pub surveyIn : DirectedWord → List ℕ

@@ -3,7 +3,7 @@ use Prim.Native.Nat.{ℕ, zero, suc, _-_, _*_, _/_, _%_, _≤_, _<_}
 use native.Mathlib.Nat.{mul-mod-right, mul-div-cancel-left, mod-eq-of-lt, le-mul-of-pos-right, mul-le-mul-left, mul-suc, mod-one}
 use native.Mathlib.Decide.{ℕ-discrete}
 use native.Mathlib.Omega.{arith}
-use mathlib.Core.Path.{_≡_, refl, sym, ap, _∙_}
+use mathlib.Core.Path.{_≡_, sym, ap, _∙_}
 use mathlib.Core.Bool.{Bool, true, false, and-eq-true-iff}
 use mathlib.Core.List.{List, [], _∷_}
 use borrow.Author.Tests.{leb-true}
@@ -11,7 +11,7 @@ use lib.Dec.{leb}
 use lib.ListN.{length, getD, take}
 use Rattle.gray_theory.specs.Radices.{size, allFrom}
 use Rattle.gray_theory.specs.Changes.{Change, change, ruler}
-use Rattle.gray_theory.specs.Sizes.{size-pos, allFrom-weaker}
+use Rattle.gray_theory.specs.Sizes.{size-pos}
 use Rattle.gray_theory.specs.Words.{member}
 use Rattle.gray_theory.specs.Members.{member-is-wordAt}
 use Rattle.gray_theory.specs.Rulers.{ruler-carry, ruler-no-carry, ruler-pos, change-is-ruler}

@@ -1,6 +1,6 @@
 -- Tests gathered over all 48 places of an engine's array, whatever the number of digits: a place past the digits passes. Loops of a
 -- fixed length run on vectors, which is why the range rules are tested so.
-use Prim.Native.Nat.{ℕ, zero, suc, _+_, _≤_, _<_}
+use Prim.Native.Nat.{ℕ, zero, suc, _+_, _≤_}
 use native.Mathlib.Decide.{decLe}
 use native.Mathlib.Omega.{arith}
 use mathlib.Core.Path.{_≡_, refl, sym, ap, ap₂, _∙_}

@@ -1,6 +1,7 @@
 -- Locked digits: those of radix 1, which have one position and never move (document 02, "Sluices locked for the season"). The other
 -- digits move, and what works ahead runs over those alone.
-use Prim.Native.Nat.{ℕ, suc}
+use Prim.Native.Nat.{ℕ, suc, _<_}
+use mathlib.Core.Path.{_≡_}
 use mathlib.Core.Bool.{Bool, cond, _&&_}
 use mathlib.Core.List.{List, [], _∷_, _++_, map}
 use lib.Dec.{leb, eqb}
@@ -37,3 +38,8 @@ movingDigits ms = record { digits = filled 48 0 (moving ms); count = length (mov
 -- the range rule: they are the digits of the survey that move, in rising order, and no other
 unfoldable pub movingInRange : List ℕ → MovingDigits → Bool
 movingInRange ms v = eqb (v .count) (length (moving ms)) && allBelow (v .count) (λ i. eqb (getD (v .digits) i 0) (getD (moving ms) i 0))
+
+-- the same as a statement: as many as move, and each in its place
+pub record MovingSays (ms : List ℕ) (v : MovingDigits) : Type 0 where
+  pub count : v .count ≡ length (unlocked ms)
+  pub digits : (i : ℕ) → i < length (unlocked ms) → getD (v .digits) i 0 ≡ getD (moving ms) i 0

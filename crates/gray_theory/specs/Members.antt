@@ -105,7 +105,7 @@ past m r c cs i k pos e ih =
     ∙ ap (λ (n : ℕ). reflect m n (k % m) ∷ getD cs (k / m) []) p
     ∙ rw (q, b)
 
-pub getD-through : (m r : ℕ) (cs : List (List ℕ)) (i : ℕ)
+getD-through : (m r : ℕ) (cs : List (List ℕ)) (i : ℕ)
     → i < length cs * m
     → getD (through m r cs) i [] ≡ reflect m (r + i / m) (i % m) ∷ getD cs (i / m) []
 unfolding through block

@@ -27,11 +27,11 @@ cond-twice : (m a : ℕ) (b : Bool) → a < m → cond b (cond b a (m - 1 - a)) 
 cond-twice m a true h = refl
 cond-twice m a false h = omega arith
 
-pub reflect-twice : (m p a : ℕ) → a < m → reflect m p (reflect m p a) ≡ a
+reflect-twice : (m p a : ℕ) → a < m → reflect m p (reflect m p a) ≡ a
 reflect-twice m p a h = cond-twice m a (even p) h
 
 -- ---- the index form
-pub rank-of-wordAt : (ms : List ℕ) (r : ℕ) → r < size ms → rank ms (wordAt ms r) ≡ r
+rank-of-wordAt : (ms : List ℕ) (r : ℕ) → r < size ms → rank ms (wordAt ms r) ≡ r
 unfolding rank wordAt
 rank-of-wordAt [] r h = unfold size in omega arith
 rank-of-wordAt (m ∷ ms) r h =
@@ -63,7 +63,7 @@ wordAt-of-rank (m ∷ ms) (a ∷ w) e =
     rw
     (digits-div (rank ms w) b, digits-mod (rank ms w) b, reflect-twice m (rank ms w) a below, wordAt-of-rank ms w others)
 
-pub wordAt-is-word : (ms : List ℕ) (r : ℕ) → r < size ms → isWord ms (wordAt ms r) ≡ true
+wordAt-is-word : (ms : List ℕ) (r : ℕ) → r < size ms → isWord ms (wordAt ms r) ≡ true
 unfolding isWord wordAt
 wordAt-is-word [] r h = refl
 wordAt-is-word (m ∷ ms) r h =

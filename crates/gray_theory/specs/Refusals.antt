@@ -44,7 +44,7 @@ passed k true rest a e = impossible (cc)
 passed k false rest a e = (refl, e)
 
 -- radices with which a call gives a value have no fault
-pub record Faultless {A : Type 0} (ms : List ℕ) (rest : Answer A) (a : A) : Type 0 where
+record Faultless {A : Type 0} (ms : List ℕ) (rest : Answer A) (a : A) : Type 0 where
   pub no-count : wrongCount ms ≡ false
   pub no-radix : wrongRadix ms ≡ false
   pub no-many : tooMany ms ≡ false
@@ -56,7 +56,7 @@ no-fault (radix e f) rest a p = impossible (cc)
 no-fault (many e f g) rest a p = impossible (cc)
 no-fault (none e f g) rest a p = record { no-count = e; no-radix = f; no-many = g; value = p }
 
-pub faultless : {A : Type 0} (ms : List ℕ) (rest : Answer A) (a : A) → ofRadices ms rest ≡ given a → Faultless ms rest a
+faultless : {A : Type 0} (ms : List ℕ) (rest : Answer A) (a : A) → ofRadices ms rest ≡ given a → Faultless ms rest a
 faultless ms rest a e = no-fault (fault ms) rest a (sym (lowest-fault-is-given ms (fault ms) rest) ∙ e)
 
 module _ {A : Type 0} (ms : List ℕ) (rest : Answer A) where
@@ -82,7 +82,7 @@ module _ {A : Type 0} (ms : List ℕ) (rest : Answer A) where
       (ne-eqb (length ms) 0 (λ z. omega arith), le-ltb 48 (length ms) (l .most), l .one, le-ltb (2 ^ 62) (size ms) (l .limit))
 
 -- ---- the same with a capacity
-pub right-capacity : (c : ℕ) → wrongCapacity c ≡ false → (1 ≤ c) × (c ≤ 32)
+right-capacity : (c : ℕ) → wrongCapacity c ≡ false → (1 ≤ c) × (c ≤ 32)
 right-capacity c e =
     let places = neither (eqb c 0) (ltb 32 c) e in
     let no-place = eqb-false c 0 (places .0) in
@@ -154,18 +154,21 @@ pub still-refused : {A B : Type 0} (k : ℕ) (wrong : Bool) (r : Answer A) (s : 
 still-refused k true r s x later e = ap (λ a. refused (numberOf a)) e
 still-refused k false r s x later e = later e
 
+-- a survey with a capacity is refused alike whatever is asked of it
+pub refused-alike : {A B : Type 0} (ms : List ℕ) (c : ℕ) (a : A) (rest : Answer B) (x : ℕ)
+    → ofSurvey ms c (given a) ≡ refused x
+    → ofSurvey ms c rest ≡ refused x
+refused-alike ms c a rest x =
+    still-refused 2 (wrongCount ms) _ _ x
+    (still-refused 3 (wrongRadix ms) _ _ x
+    (still-refused 4 (tooMany ms) _ _ x (still-refused 5 (wrongCapacity c) (given a) rest x (λ e. impossible (cc)))))
+
 module _ (l : List ℕ) (c : ℕ) where
-  -- a survey is refused alike whatever is asked of it
   pub survey-refused-alike : {A : Type 0} (rest : Answer A) (x : ℕ) → surveyCall l c ≡ refused x → ofSurvey (digits l) c rest ≡ refused x
   unfolding surveyCall
-  survey-refused-alike rest x =
-      let ms = digits l in
-      still-refused 2 (wrongCount ms) _ _ x
-      (still-refused 3 (wrongRadix ms) _ _ x
-      (still-refused 4 (tooMany ms) _ _ x
-      (still-refused 5 (wrongCapacity c) (given (size ms)) rest x (λ e. impossible (cc)))))
+  survey-refused-alike rest x = refused-alike (digits l) c (size (digits l)) rest x
 
-  -- and one that is accepted is within the limits
+  -- one that is accepted is within the limits
   pub survey-call-given : (n : ℕ) → surveyCall l c ≡ given n → Openable (digits l) c × (n ≡ size (digits l))
   unfolding surveyCall
   survey-call-given n e =

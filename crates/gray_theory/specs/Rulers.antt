@@ -76,7 +76,7 @@ wordAt-moves (m ∷ ms) j h =
     (λ q. wordAt-moves ms (j / m) (rw q at (quotient-below m ms (suc j) h)))
 
 -- ---- what a move says
-pub moves-differ : {k : ℕ} {d : Bool} {u v : List ℕ} → Moves k d u v → difference u v ≡ record { digit = k; down = d }
+moves-differ : {k : ℕ} {d : Bool} {u v : List ℕ} → Moves k d u v → difference u v ≡ record { digit = k; down = d }
 unfolding difference
 moves-differ (up {a} {w}) = rw (ne-eqb a (suc a) (λ z. omega arith), le-ltb (suc a) a (omega arith))
 moves-differ (down {a} {w}) = rw (ne-eqb (suc a) a (λ z. omega arith), lt-ltb a (suc a) (omega arith))

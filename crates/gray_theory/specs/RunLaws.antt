@@ -1,5 +1,5 @@
 -- Runs of calls, one after another: a run is its first calls and a run from where they have come to.
-use Prim.Native.Nat.{ℕ, zero, suc, _+_, _-_, _≤_, _<_}
+use Prim.Native.Nat.{ℕ, suc, _+_, _-_, _≤_, _<_}
 use native.Mathlib.Omega.{arith}
 use native.Mathlib.Numerals.{add-one}
 use mathlib.Core.Path.{_≡_, refl, sym, ap, _∙_}
@@ -11,7 +11,7 @@ use Rattle.gray_theory.specs.MoveBytes.{moveByte}
 use Rattle.gray_theory.specs.Changes.{Change}
 use Rattle.gray_theory.specs.Engines.{Event, moved, ended, Handed, after}
 use Rattle.gray_theory.specs.Places.{placed}
-use Rattle.gray_theory.specs.RunCalls.{Stop, nothing, end, refusal, Ran, runThen, runFrom, onto, Outcome, Running, runMakes, runWith}
+use Rattle.gray_theory.specs.RunCalls.{Stop, nothing, end, refusal, Ran, runThen, runFrom, onto, Running, runMakes, runWith}
 use Rattle.gray_theory.specs.SingleCalls.{run-in-range-is-made}
 
 -- after k calls that all moved, with their bytes: whatever is asked for beyond them is a run from there

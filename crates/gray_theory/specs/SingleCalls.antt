@@ -2,9 +2,9 @@
 -- back, and what stopped the run is what call k + 1 answers.
 use Prim.Native.Nat.{ℕ, zero, suc, _+_, _≤_, _<_}
 use native.Mathlib.Omega.{arith}
-use mathlib.Core.Path.{_≡_, refl, sym, ap, subst, _∙_}
-use mathlib.Core.Bool.{Bool, true, false, not}
-use mathlib.Core.List.{List, [], _∷_, _++_}
+use mathlib.Core.Path.{_≡_, refl, sym, ap, _∙_}
+use mathlib.Core.Bool.{Bool, true, false}
+use mathlib.Core.List.{List, _∷_}
 use borrow.Author.Tests.{lt-ltb, le-ltb}
 use lib.ListN.{length, getD}
 use Rattle.gray_theory.specs.Answers.{Answer, given, refused}
@@ -12,7 +12,7 @@ use Rattle.gray_theory.specs.Bools.{impossible}
 use Rattle.gray_theory.specs.MoveBytes.{moveByte}
 use Rattle.gray_theory.specs.Changes.{Change}
 use Rattle.gray_theory.specs.Engines.{Event, moved, ended, Handed, after}
-use Rattle.gray_theory.specs.RunCalls.{Stop, nothing, end, refusal, Outcome, Running, Ran, runThen, runFrom, onto, runRefused, runMakes, runWith}
+use Rattle.gray_theory.specs.RunCalls.{Stop, nothing, end, refusal, Ran, runThen, runFrom, onto, runRefused, runMakes, runWith}
 
 -- what stopped a run of k moves that was to make t, and the state that it leaves
 pub data Stops {S : Type 0} (call : S → Handed S Event) (s : S) (t k : ℕ) (left : S) (stop : Stop) : Type 0 where

@@ -123,7 +123,7 @@ first-rests m r (free moves two) z =
 first-rests m r (locked rests one) z = rw rests
 
 -- which digit moves and how its direction changes when the walk goes on from rank r
-record Turn (ms : List ℕ) (r i : ℕ) : Type 0 where
+record Turning (ms : List ℕ) (r i : ℕ) : Type 0 where
   digit : ruler ms (suc r) ≡ suc i
   direction : getD (downsAt ms r) i false ≡ descends ms (suc r)
   downs :
@@ -135,7 +135,7 @@ turn-first : (m : ℕ) (ms : List ℕ) (r : ℕ)
     → suc r / m ≡ r / m
     → suc r % m ≡ suc (r % m)
     → Increment m (suc r)
-    → Turn (m ∷ ms) r 0
+    → Turning (m ∷ ms) r 0
 unfolding wordAt downsAt
 turn-first m ms r moves q b next-one =
     record {
@@ -150,8 +150,8 @@ turn-later : (m : ℕ) (ms : List ℕ) (r i : ℕ)
     → suc r / m ≡ suc (r / m)
     → suc r % m ≡ 0
     → leb 2 m && not (even (suc r / m)) ≡ leb 2 m && not (even (suc (suc r) / m))
-    → Turn ms (r / m) i
-    → Turn (m ∷ ms) r (suc i)
+    → Turning ms (r / m) i
+    → Turning (m ∷ ms) r (suc i)
 unfolding wordAt downsAt
 turn-later m ms r i q b still t =
     record {
@@ -160,7 +160,7 @@ turn-later m ms r i q b still t =
       downs = ap₂ (λ (d : Bool) (l : List Bool). d ∷ l) still (rw q (t .downs));
     }
 
-turn : (ms : List ℕ) → allFrom 1 ms ≡ true → (r : ℕ) → suc r < size ms → (i : ℕ) × Turn ms r i
+turn : (ms : List ℕ) → allFrom 1 ms ≡ true → (r : ℕ) → suc r < size ms → (i : ℕ) × Turning ms r i
 unfolding allFrom
 turn [] e r h = absurd (unfold size in omega arith)
 turn (m ∷ ms) e r h =

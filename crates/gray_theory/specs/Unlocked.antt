@@ -4,26 +4,23 @@ use native.Mathlib.Nat.{div-one, mod-one, one-mul}
 use native.Mathlib.Decide.{decLe, decLt, ℕ-discrete}
 use native.Mathlib.Numerals.{add-one}
 use native.Mathlib.Omega.{arith}
-use mathlib.Core.Path.{_≡_, refl, sym, ap, ap₂, subst, _∙_}
-use mathlib.Core.Bool.{Bool, true, false, cond, not, and-eq-true-iff, and-true, and-false, _&&_}
+use mathlib.Core.Path.{_≡_, refl, sym, ap, ap₂, _∙_}
+use mathlib.Core.Bool.{Bool, true, false, cond, and-eq-true-iff, and-true, and-false, _&&_}
 use mathlib.Core.List.{List, [], _∷_, _++_, map, map-append}
 use borrow.Author.Tests.{leb-true, le-leb, lt-leb, eq-eqb, ne-eqb, eqb-true}
 use lib.Dec.{leb, eqb}
-use lib.ListN.{length, getD, take, length-map, length-take, length-append, List·getD-append}
-use lib.Seq.{getD-append-seam, getD-at, getD-take, take-all, length-take-le, ext-getD}
+use lib.ListN.{length, getD, take, length-map, length-append, List·getD-append}
+use lib.Seq.{getD-append-seam, getD-at, getD-take, length-take-le, ext-getD}
 use Rattle.gray_theory.specs.Radices.{size, allFrom}
-use Rattle.gray_theory.specs.Locks.{unlocked, moving, numbered, MovingDigits, movingDigits, movingInRange}
-use Rattle.gray_theory.specs.Arrays.{filled}
-use Rattle.gray_theory.specs.Filled.{getD-filled, take-filled}
+use Rattle.gray_theory.specs.Locks.{MovingSays, unlocked, moving, numbered, MovingDigits, movingDigits, movingInRange}
+use Rattle.gray_theory.specs.Filled.{getD-filled}
 use Rattle.gray_theory.specs.Directions.{allBelow}
 use Rattle.gray_theory.specs.Bools.{impossible}
 use Rattle.gray_theory.specs.Sizes.{radix-least}
 use Rattle.gray_theory.specs.DigitRanges.{allBelow-each, each-allBelow, allBelow-same}
-use Rattle.gray_theory.specs.Words.{even, reflect}
-use Rattle.gray_theory.specs.Changes.{ruler, descends}
+use Rattle.gray_theory.specs.Changes.{ruler}
 use Rattle.gray_theory.specs.Indexed.{wordAt}
-use Rattle.gray_theory.specs.Members.{length-wordAt}
-use Rattle.gray_theory.specs.Rulers.{ruler-carry, ruler-no-carry, ruler-pos, descends-carry, descends-no-carry}
+use Rattle.gray_theory.specs.Rulers.{ruler-carry, ruler-no-carry, ruler-pos}
 
 -- ---- one digit: it moves, or its radix is 1
 pub data Lock (m : ℕ) : Type 0 where
@@ -391,11 +388,6 @@ moving-more (k ∷ ms) m = by (leb 2 k) (ap (map suc) (moving-more ms m) ∙ map
     by true e = ap (λ l. 1 ∷ l) e
     by false e = e
 
--- ---- in an engine's state
-pub record MovingSays (ms : List ℕ) (v : MovingDigits) : Type 0 where
-  pub count : v .count ≡ length (unlocked ms)
-  pub digits : (i : ℕ) → i < length (unlocked ms) → getD (v .digits) i 0 ≡ getD (moving ms) i 0
-
 pub moving-says : (ms : List ℕ) (v : MovingDigits) → movingInRange ms v ≡ true → MovingSays ms v
 unfolding movingInRange
 moving-says ms v e =
@@ -536,7 +528,7 @@ module _
     says-here : MovingSays (take n l) v
     says-here = moving-says (take n l) v ranged
 
-    pub numbers-held : length (take (v .count) (v .digits)) ≡ v .count
+    numbers-held : length (take (v .count) (v .digits)) ≡ v .count
     numbers-held =
         let many = says-here .count in
         let few = unlocked-most (take n l) in

@@ -1,36 +1,29 @@
 -- What both engines keep: its range part by part, that a move keeps it, and its value at each rank of the walk.
 use Prim.Native.Nat.{ℕ, suc, _-_, _≤_, _<_}
 use native.Mathlib.Omega.{arith}
-use mathlib.Core.Path.{_≡_, sym, ap, _∙_}
-use mathlib.Core.Bool.{true, false, _&&_, and-eq-true-iff}
+use mathlib.Core.Path.{_≡_, sym, ap, ap₂, _∙_}
+use mathlib.Core.Bool.{true, _&&_, and-eq-true-iff}
 use mathlib.Core.List.{List}
 use borrow.Author.Tests.{le-leb, leb-true}
 use lib.Dec.{leb}
-use lib.ListN.{length, getD, length-set}
-use lib.Seq.{length-take-le, getD-take}
+use lib.ListN.{length, getD, take, length-set, length-reverse}
+use lib.Seq.{length-take-le, getD-take, take-all}
 use Rattle.gray_theory.specs.Answers.{Answer, given, isGiven}
-use Rattle.gray_theory.specs.Arrays.{filled}
-use Rattle.gray_theory.specs.Radices.{size, allFrom, Limits}
+use Rattle.gray_theory.specs.Arrays.{filled, digitArray}
+use Rattle.gray_theory.specs.Radices.{digits, size, allFrom, Limits}
 use Rattle.gray_theory.specs.Changes.{change}
 use Rattle.gray_theory.specs.Words.{member}
 use Rattle.gray_theory.specs.Indexed.{wordAt}
-use Rattle.gray_theory.specs.Locks.{movingDigits, movingInRange}
+use Rattle.gray_theory.specs.Locks.{MovingDigits, movingDigits, movingInRange, MovingSays}
 use Rattle.gray_theory.specs.Directions.{digitsInRange}
-use Rattle.gray_theory.specs.DirectedWords.{DirectedWord, surveyIn, movingIn, settingIn, freshWord, wordInRange, digitMoved, changeBy}
+use Rattle.gray_theory.specs.DirectedWords.{DirectedWord, Rooms, surveyIn, movingIn, settingIn, freshWith, freshWord, wordInRange, digitMoved, changeBy}
 use Rattle.gray_theory.specs.Members.{member-is-wordAt}
 use Rattle.gray_theory.specs.Sizes.{radix-two}
-use Rattle.gray_theory.specs.Filled.{take-filled}
+use Rattle.gray_theory.specs.Filled.{take-filled, digit-array}
 use Rattle.gray_theory.specs.DigitRanges.{digits-move-in-range}
-use Rattle.gray_theory.specs.Unlocked.{MovingSays, moving-says, says-moving, moving-stored, movingDigit, unlocked-two}
+use Rattle.gray_theory.specs.Unlocked.{moving-says, says-moving, moving-stored, movingDigit, unlocked-two}
 use Rattle.gray_theory.specs.Turns.{Advances}
 use Rattle.gray_theory.specs.WalkArrays.{wordArray, downArray, take-word-array, word-array-start, down-array-start, arrays-in-range, word-array-moved, down-array-moved, change-named}
-
--- the lengths that the arrays have
-pub record Rooms (d : DirectedWord) : Type 0 where
-  pub radices : length (d .radices) ≡ 48
-  pub moving : length (d .moving .digits) ≡ 48
-  pub word : length (d .word) ≡ 48
-  pub downs : length (d .downs) ≡ 48
 
 -- ---- the range rule, part by part
 pub record WordRange (check : List ℕ → Answer Unit) (d : DirectedWord) : Type 0 where
@@ -122,6 +115,28 @@ pub move-keeps-rooms : (d : DirectedWord) (k : ℕ) → Rooms d → Rooms (digit
 unfolding digitMoved
 move-keeps-rooms d k a =
     record { radices = a .radices; moving = a .moving; word = simp length-set (a .word); downs = simp length-set (a .downs) }
+
+-- ---- lent radices in an array, and the digits of it that move: what an opening begins with
+module _ (l : List ℕ) (most : length l ≤ 48) (array : List ℕ) (made : array ≡ digitArray l) where
+  pub array-whole : array ≡ filled 48 0 (digits l)
+  array-whole = made ∙ digit-array l most
+
+  array-part : take 48 (take (length l) array) ≡ digits l
+  array-part =
+      let same = length-reverse l in
+      ap (λ k. take 48 (take k array)) (sym same)
+      ∙ ap (λ a. take 48 (take (length (digits l)) a)) array-whole
+      ∙ ap (take 48) (take-filled 48 0 (digits l))
+      ∙ take-all 48 (digits l) (omega arith)
+
+  module _ (moving : MovingDigits) (told : moving ≡ movingDigits (take 48 (take (length l) array))) where
+    pub moving-whole : moving ≡ movingDigits (digits l)
+    moving-whole = told ∙ ap movingDigits array-part
+
+    pub fresh-from-lent : freshWith array (length l) moving ≡ freshWord (digits l)
+    fresh-from-lent =
+        ap₂ (λ a k. freshWith a k moving) array-whole (sym (length-reverse l))
+        ∙ ap (freshWith (filled 48 0 (digits l)) (length (digits l))) moving-whole
 
 -- ---- along the walk: what is kept at rank r
 abbrev pub directedAt : List ℕ → ℕ → DirectedWord

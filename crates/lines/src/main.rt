@@ -2,6 +2,7 @@
 // last one has no newline. Each line is read in two parts.
 
 use bytes::scan::find;
+use gray::DIGITS;
 use gray::Written;
 use reader::Found;
 use reader::Reader;
@@ -15,21 +16,21 @@ fn print(bytes: &[u8]) {
     io::write_all(1, bytes);
 }
 
-fn least(a: usize, b: usize) -> usize
+fn min(a: usize, b: usize) -> usize
     ensures { λ r. ⌜ r ≡ min a b ⌝ }
 {
     if a < b { a } else { b }
 }
 
 // n, or how many bytes there are where they are fewer.
-fn within(n: usize, bytes: &[u8]) -> usize
+fn min_len(n: usize, bytes: &[u8]) -> usize
     ensures { λ r. ⌜ Counts r (now (bytes .entry)) × (r ≡ min n (length (now (bytes .entry)))) ⌝ }
 {
-    least(n, bytes.len())
+    min(n, bytes.len())
 }
 
 fn read_line(line: &[u8]) -> Reader {
-    let half = within(line.len() / 2, line);
+    let half = min_len(line.len() / 2, line);
     Reader::fresh().read(&line[..half]).read(&line[half..])
 }
 
@@ -39,7 +40,7 @@ fn first_line(reader: Reader) -> Line {
         return Line::Unread;
     };
     let counts = reader.counts;
-    let k = within(n, &counts);
+    let k = min_len(n, &counts);
     text::survey_line(&counts[..k])
 }
 
@@ -47,8 +48,8 @@ fn first_line(reader: Reader) -> Line {
 // another number.
 fn written_into(line: Line, room: usize) -> usize {
     let mut out = [0u8; 256];
-    let k = within(room, &out);
-    let written = text::write_line(line, [0; 48], 0, &mut out[..k]);
+    let k = min_len(room, &out);
+    let written = text::write_line(line, [0; DIGITS], 0, &mut out[..k]);
     match written {
         Written::Bytes(n) => n,
         Written::Refused(k) => if k == 9 { 0 } else { 257 },
@@ -58,8 +59,8 @@ fn written_into(line: Line, room: usize) -> usize {
 // A line needs just as many bytes as it has.
 fn print_line(line: Line) {
     let mut out = [0u8; 256];
-    text::write_line(line, [0; 48], 0, &mut out);
-    let n = within(written_into(line, 256), &out);
+    text::write_line(line, [0; DIGITS], 0, &mut out);
+    let n = min_len(written_into(line, 256), &out);
     print(&out[..n]);
     if written_into(line, n) != n {
         print(b"refused with its room\n");
@@ -87,7 +88,7 @@ fn run(text: &[u8]) {
     let mut at = 0;
     while at < text.len() {
         let end = find(text, at, text.len(), b'\n');
-        let next = within(end + 1, text);
+        let next = min_len(end + 1, text);
         print_answer(&text[at..next], &text[at..end]);
         at = next;
     }

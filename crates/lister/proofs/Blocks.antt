@@ -8,12 +8,12 @@ use native.Mathlib.Numerals.{add-one}
 use native.Mathlib.Decide.{decLt}
 use native.Mathlib.Omega.{arith}
 use lib.ListN.{length, getD, take, drop, set, length-append, length-map, length-drop, length-set, drop-of-length-le}
-use lib.Seq.{drop-cons, length-take-le, take-suc-set, append-snoc}
+use lib.Seq.{drop-cons, length-take-le, take-suc-set, take-take, take-set-le, append-snoc}
 use Rattle.gray_theory.specs.Radices.{size}
 use Rattle.gray_theory.specs.Words.{even, upward, downward}
 use Rattle.lister_theory.specs.Listers.{blocks, listing}
 use Rattle.gray_theory.specs.Places.{placed}
-use Rattle.lister.specs.Outputs.{window, laid, notchAfter, Reached, RowRoom}
+use Rattle.lister.specs.Outputs.{window, laid, notchAfter, Reached, RowRoom, Listed}
 use Rattle.lister_theory.specs.Reflections.{length-listing}
 use Rattle.lister.proofs.Windows.{window-append, window-none, window-past, one-word, window-map, length-window}
 use Rattle.lister.proofs.Windows.{blocks-append, Each, each-window, each-blocks, each-listing}
@@ -307,12 +307,6 @@ module _ (d : Bool) (radices sizes : List ℕ) (i skip left start : ℕ) (word�
     }
 
 -- ---- what the writers of the next notch leave
--- the lister of the digits that remain
-pub wrote-below : (radices word out out′ : List ℕ) (d : Bool) (i b s t at : ℕ) → i < length word
-    → out′ ≡ laid at (take (i + 1) (set word i b)) (window s t (listing d (drop (i + 1) radices))) out
-    → out′ ≡ laid at (take i word ++ (b ∷ [])) (window s t (listing d (drop (suc i) radices))) out
-wrote-below radices word out out′ d i b s t at h e = rw (add-one i, take-suc-set word i b h) at e
-
 -- the writer of the last two digits
 pub wrote-square : (radices word out out′ : List ℕ) (d : Bool) (i b s t at : ℕ) → i + 3 ≡ length radices
     → out′ ≡ laid at (take (length radices - 3) word ++ (b ∷ [])) (window s t (listing d (drop (length radices - 2) radices))) out
@@ -355,24 +349,52 @@ chosen-lister d ms b = go (even b)
     go true = refl
     go false = refl
 
--- no digit remains: the word itself
-pub base-word : (d : Bool) (radices sizes : List ℕ) (i skip left start : ℕ) (word out out′ : List ℕ)
-    → Reached radices sizes word i skip left out start → i ≡ length radices → out′ ≡ placed start (take (length radices) word) out
-    → out′ ≡ laid start (take i word) (window skip left (listing d (drop i radices))) out
-unfolding listing size
-base-word d radices sizes i skip left start word out out′ r none e =
-    let ended : drop i radices ≡ [] = drop-of-length-le radices {i = i} (omega arith) in
-    let begins : skip < 1 = rw ended at (r .begun) in
-    let one : window skip left (listing d (drop i radices)) ≡ [] ∷ [] =
-    ap (λ ms. window skip left (listing d ms)) ended ∙ one-word skip left begins (r .some)
-    in
-    e
-    ∙ ap (λ n. placed start (take n word) out) (sym none)
-    ∙ sym (laid-word start (take i word) out)
-    ∙ ap (λ ws. laid start (take i word) ws out) (sym one)
-
-pub base-room : (radices sizes : List ℕ) (i skip left start : ℕ) (word out : List ℕ)
-    → Reached radices sizes word i skip left out start → start + length radices ≤ length out
-base-room radices sizes i skip left start word out r =
+-- where no digit remains a word has room
+pub none-room : {radices sizes word : List ℕ} {i s t at : ℕ} {out : List ℕ} → Reached radices sizes word i s t out at
+    → i ≡ length radices → at + i ≤ length out
+none-room {radices} r none =
     let one = mul-le-mul-right (length radices) (r .some) in
     omega (arith, r .room)
+
+-- ---- the digits that remain where digit i stands at notch b
+module _ (radices sizes word : List ℕ) (i b s t at : ℕ) (out : List ℕ) (more : i < length radices)
+    (r : Reached radices sizes (set word i b) (i + 1) s t out at) where
+  -- the digits that are fixed
+  fixed : take (i + 1) (set word i b) ≡ take i word ++ (b ∷ [])
+  fixed =
+      let long : length word ≡ 48 = sym (length-set word i b) ∙ r .long in
+      ap (λ k. take k (set word i b)) (add-one i) ∙ take-suc-set word i b (omega (arith, r .few))
+
+  -- one of the listers has listed them
+  pub listed-below : (way d : Bool) → way ≡ d → (word′ out′ : List ℕ)
+      → Listed d (drop (i + 1) radices) (i + 1) (take (i + 1) (set word i b)) (set word i b) word′ s t at out out′
+      → Listed way (drop (i + 1) radices) i (take i word ++ (b ∷ [])) word word′ s t at out out′
+  listed-below way d e word′ out′ l = record {
+    wrote = rw (e, ← fixed) (l .wrote);
+    kept =
+        sym (take-take i (i + 1) word′ (omega arith))
+        ∙ ap (take i) (l .kept)
+        ∙ take-take i (i + 1) (set word i b) (omega arith)
+        ∙ take-set-le i word i b (omega arith);
+    long = l .long;
+  }
+
+  -- there is none: the word itself
+  pub listed-none : (d : Bool) (out′ : List ℕ) → i + 1 ≡ length radices → out′ ≡ placed at (take (i + 1) (set word i b)) out
+      → Listed d (drop (i + 1) radices) i (take i word ++ (b ∷ [])) word (set word i b) s t at out out′
+  unfolding listing size
+  listed-none d out′ none e =
+      let ended : drop (i + 1) radices ≡ [] = drop-of-length-le radices {i = i + 1} (omega arith) in
+      let begins : s < 1 = rw ended at (r .begun) in
+      let one : window s t (listing d (drop (i + 1) radices)) ≡ [] ∷ [] =
+      ap (λ ms. window s t (listing d ms)) ended ∙ one-word s t begins (r .some)
+      in
+      record {
+        wrote =
+            e
+            ∙ ap (λ p. placed at p out) fixed
+            ∙ sym (laid-word at (take i word ++ (b ∷ [])) out)
+            ∙ ap (λ ws. laid at (take i word ++ (b ∷ [])) ws out) (sym one);
+        kept = take-set-le i word i b (omega arith);
+        long = r .long;
+      }

@@ -75,23 +75,26 @@ module _ (l : List ℕ) (total : ℕ) (sized : sizeCall l ≡ given total) (r t 
     -- what the upward lister may rely on
     pub list-reached : (sizes word out : List ℕ) → Sized l sizes → length sizes ≡ 48 → length word ≡ 48 → 0 < t → room ≡ length out
         → t ≤ room / length l
-        → Reached l sizes word 0 r t out 0
+        → (0 < length l) × Reached l sizes word 0 r t out 0
     list-reached sizes word out table long wide some same h =
         let (few, positive, limit) = table-asked l total sized in
         let (whole, _) = survey-size l total sized in
-        let fit : t * length l ≤ room = le-div-iff-mul-le (accepted l total sized .some) .0 h in
-        record {
-          few = few;
-          inside = omega arith;
-          whole = positive;
-          table = long;
-          sized = table;
-          long = wide;
-          begun = omega arith;
-          some = some;
-          short = omega arith;
-          room = omega arith;
-        }
+        let some-digit = accepted l total sized .some in
+        let fit : t * length l ≤ room = le-div-iff-mul-le some-digit .0 h in (
+          some-digit,
+          record {
+            few = few;
+            inside = omega arith;
+            whole = positive;
+            table = long;
+            sized = table;
+            long = wide;
+            begun = omega arith;
+            some = some;
+            short = omega arith;
+            room = omega arith;
+          },
+        )
 
 -- what the upward lister leaves at the start of an output is the run of settings and the bytes past it
 laid-run : (l out : List ℕ) (r t : ℕ) → laid 0 [] (window r t (listing false l)) out ≡ run l r t ++ drop (length (run l r t)) out

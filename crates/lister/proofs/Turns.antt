@@ -1,31 +1,20 @@
--- A turn of a lister's loop, for `up`, `down` and `square` alike: what is known where it begins, and what its steps want of that.
+-- A turn of a lister's loop, for `up`, `down` and `square` alike: what is known where it begins, and what its steps want of
+-- that.
 use Prim.Native.Nat.{ℕ, suc, _+_, _-_, _*_, _^_, _≤_, _<_}
 use native.Mathlib.Omega.{arith}
 use mathlib.Core.Path.{_≡_, refl, sym, ap, subst, _∙_}
 use mathlib.Core.Bool.{Bool, true, false, cond, not, _&&_, and-eq-true-iff}
 use mathlib.Core.List.{List, [], _∷_, _++_}
+use native.Mathlib.Numerals.{add-one}
 use lib.Dec.{ltb}
 use lib.ListN.{length, getD, take, drop, set, length-set}
-use lib.Seq.{take-take, take-set-le}
 use borrow.Author.Tests.{ltb-true, ltb-false, lt-ltb}
 use Rattle.gray_theory.specs.Radices.{size}
 use Rattle.gray_theory.specs.Words.{even}
 use Rattle.lister_theory.specs.Listers.{listing}
-use Rattle.lister.specs.Outputs.{window, laid, notchAfter, Reached, RowRoom}
-use Rattle.lister.proofs.Blocks.{
-  Along,
-  along-past,
-  along-wrote,
-  along-ended,
-  along-below,
-  along-row,
-  along-room,
-  wrote-below,
-  wrote-row,
-  wrote-square,
-  chosen-lister,
-  fixed-digits,
-}
+use Rattle.lister.specs.Outputs.{window, laid, notchAfter, Reached, RowRoom, Listed}
+use Rattle.lister.proofs.Blocks.{Along, along-past, along-wrote, along-ended, along-below, along-row, along-room}
+use Rattle.lister.proofs.Blocks.{wrote-row, wrote-square, chosen-lister, fixed-digits}
 
 -- what is known where a turn begins: u of the m notches are passed, and each has q words
 pub record Turn (d : Bool) (radices sizes : List ℕ) (i skip left start : ℕ) (word₀ out₀ : List ℕ) (m q : ℕ) (word out : List ℕ)
@@ -36,6 +25,20 @@ pub record Turn (d : Bool) (radices sizes : List ℕ) (i skip left start : ℕ) 
   pub byte : m < 256
   pub block : q ≡ size (drop (suc i) radices)
   pub along : Along d radices i skip left start word₀ out₀ word out u s t at
+
+-- it is known from what the lister may rely on and what the loop keeps
+pub turn-at : {d : Bool} {radices sizes : List ℕ} {i skip left start : ℕ} {word₀ out₀ : List ℕ} {m : ℕ} {word out : List ℕ}
+    {u s t at : ℕ} → Reached radices sizes word₀ i skip left out₀ start → i < length radices
+    → (m ≡ getD radices i 0) × (m < 256) → Along d radices i skip left start word₀ out₀ word out u s t at
+    → Turn d radices sizes i skip left start word₀ out₀ m (getD sizes i 0) word out u s t at
+turn-at {i = i} reached more radix along = record {
+  reached = reached;
+  more = more;
+  radix = radix .0;
+  byte = radix .1;
+  block = reached .sized i more;
+  along = along;
+}
 
 -- the window after the q words of a notch
 abbrev pub Moved : (n q s t at s′ t′ at′ : ℕ) → Type 0
@@ -57,17 +60,16 @@ module _ (u m t : ℕ) where
       let none : t ≤ 0 = ltb-false 0 t (ap (λ b. b && ltb 0 t) (sym (lt-ltb u m h)) ∙ e) in
       omega arith
 
--- words that begin alike begin alike to a smaller length
-shorter : (a b : List ℕ) (i j : ℕ) → i ≤ j → take j a ≡ take j b → take i a ≡ take i b
-shorter a b i j h e = sym (take-take i j a h) ∙ ap (take i) e ∙ take-take i j b h
-
 module _ {d : Bool} {radices sizes : List ℕ} {i skip left start : ℕ} {word₀ out₀ : List ℕ} {m q : ℕ} {word out : List ℕ}
     {u s t at : ℕ} (turn : Turn d radices sizes i skip left start word₀ out₀ m q word out u s t at) where
   -- what the other functions that a turn calls may rely on
-  pub below-may : (b : ℕ) → s < q → 0 < t → Reached radices sizes (set word i b) (i + 1) s t out at
+  below-may : (b : ℕ) → s < q → 0 < t → Reached radices sizes (set word i b) (i + 1) s t out at
   below-may b begins some =
       along-below d radices sizes i skip left start word₀ out₀ (turn .reached) (turn .more) word out u s t at (turn .along) b
       (omega (arith, turn .block)) some
+
+  pub remaining-may : (b : ℕ) → s < q → 0 < t → (i < length radices) × Reached radices sizes (set word i b) (i + 1) s t out at
+  remaining-may b begins some = (turn .more, below-may b begins some)
 
   pub square-may : (b : ℕ) → s < q → 0 < t → i + 3 ≡ length radices
       → (3 ≤ length radices)
@@ -87,10 +89,13 @@ module _ {d : Bool} {radices sizes : List ℕ} {i skip left start : ℕ} {word�
       omega (arith, turn .along .same)
 
   -- the loop is left
-  pub left-off : (u < m → 0 < t → ⊥) → out ≡ laid start (take i word₀) (window skip left (listing d (drop i radices))) out₀
-  left-off stops =
+  stopped : (u < m → 0 < t → ⊥) → out ≡ laid start (take i word₀) (window skip left (listing d (drop i radices))) out₀
+  stopped stops =
       along-ended d radices sizes i skip left start word₀ out₀ (turn .reached) (turn .more) word out u s t at (turn .along)
       (λ h some. stops (omega (arith, turn .radix)) some)
+
+  pub left-off : (u < m → 0 < t → ⊥) → Listed d (drop i radices) i (take i word₀) word₀ word skip left start out₀ out
+  left-off stops = record { wrote = stopped stops; kept = turn .along .kept; long = turn .along .long }
 
   -- where the next turn begins, from each of the ways through this one
   module _ (word′ out′ : List ℕ) (s′ t′ at′ : ℕ) (going : u < m) (moved : Moved (length radices) q s t at s′ t′ at′) where
@@ -144,16 +149,11 @@ module _ {d : Bool} {radices sizes : List ℕ} {i skip left start : ℕ} {word�
           (ap length eo ∙ same)
 
       -- by a lister of the digits that remain
-      pub after-below : (word″ out″ : List ℕ)
-          → out″ ≡ laid at (take (i + 1) (set word i b)) (window s t (listing way (drop (i + 1) radices))) out
-          → take (i + 1) word″ ≡ take (i + 1) (set word i b) → length word″ ≡ 48 → length out″ ≡ length out
-          → word′ ≡ word″ → out′ ≡ out″ → Next
-      after-below word″ out″ wrote kept long same ew eo =
-          let inside : i < length word = omega (arith, turn .more, turn .reached .few, turn .along .long) in
-          after-wrote
-          (wrote-below radices word out out′ way i b s t at inside (eo ∙ wrote))
-          (ap (take i) ew ∙ shorter word″ (set word i b) i (i + 1) (omega arith) kept ∙ take-set-le i word i b (omega arith))
-          (ap length ew ∙ long)
+      pub after-listed : (word″ out″ : List ℕ)
+          → Listed way (drop (i + 1) radices) i (take i word ++ (b ∷ [])) word word″ s t at out out″
+          → length out″ ≡ length out → word′ ≡ word″ → out′ ≡ out″ → Next
+      after-listed word″ out″ l same ew eo =
+          after-wrote (eo ∙ rw (add-one i) at (l .wrote)) (ap (take i) ew ∙ l .kept) (ap length ew ∙ l .long)
           (ap length eo ∙ same)
 
 -- where two digits remain, and the one before them is a, which is not stored
@@ -177,7 +177,7 @@ module _ {d : Bool} {radices sizes : List ℕ} {skip left start : ℕ} {out₀ :
       ≡ laid start (take (length radices - 3) word ++ (a ∷ []))
       (window skip left (listing d (drop (length radices - 2) radices))) out₀
   left-square stops =
-      left-off turn stops
+      stopped turn stops
       ∙ ap (λ p. laid start p (window skip left (listing d (drop (length radices - 2) radices))) out₀)
       (fixed-digits word (length radices) a three fits)
 

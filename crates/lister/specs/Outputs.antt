@@ -6,6 +6,7 @@ use mathlib.Core.List.{List, _++_, map, flatten}
 use lib.ListN.{length, getD, take, drop}
 use Rattle.gray_theory.specs.Radices.{size, allFrom}
 use Rattle.gray_theory.specs.Places.{placed}
+use Rattle.lister_theory.specs.Listers.{listing}
 
 -- t words from word s on
 unfoldable pub window : ℕ → ℕ → List (List ℕ) → List (List ℕ)
@@ -45,3 +46,10 @@ pub record RowRoom (word : List ℕ) (n m s t : ℕ) (out : List ℕ) (at : ℕ)
   pub begun : s < m
   pub short : s + t ≤ 2 ^ 62
   pub room : at + t * n ≤ length out
+
+-- what a lister leaves: in the output the words of its window, each after the digits that are fixed, and in the word the digits
+-- before i as they were
+pub record Listed (down : Bool) (radices : List ℕ) (i : ℕ) (fixed word word′ : List ℕ) (s t at : ℕ) (out out′ : List ℕ) : Type 0 where
+  pub wrote : out′ ≡ laid at fixed (window s t (listing down radices)) out
+  pub kept : take i word′ ≡ take i word
+  pub long : length word′ ≡ 48

@@ -2,6 +2,7 @@
 // Radices and words are lent bytes with digit n first.
 
 use gray::Counted;
+use gray::DIGITS;
 use gray::Written;
 use gray::size;
 ghost use mathlib.Core.Path.{_≡_};
@@ -17,10 +18,10 @@ ghost use Rattle.gray_theory.specs.Words.{even};
 ghost use Rattle.gray_theory.specs.Places.{placed};
 ghost use Rattle.lister_theory.specs.Listers.{listing};
 ghost use Rattle.lister_theory.specs.Calls.{listCall};
-ghost use Rattle.lister.specs.Outputs.{window, laid, notchAfter, Sized, Reached, RowRoom};
+ghost use Rattle.lister.specs.Outputs.{window, laid, notchAfter, Sized, Reached, RowRoom, Listed};
 
 // The bytes go by way of a local array: nothing else refers to it, so they can all be moved at once.
-fn load(from: &[u8; 48], start: usize, count: usize) -> [u8; 16]
+fn load(from: &[u8; DIGITS], start: usize, count: usize) -> [u8; 16]
     requires { ⌜ (length (now from) ≡ 48) × (start + count ≤ 48) × (count ≤ 16) ⌝ }
     ensures { λ r. ⌜ take count r ≡ take count (drop start (now (from .entry))) ⌝ }
 {
@@ -44,7 +45,7 @@ fn store(chunk: [u8; 16], count: usize, out: &mut [u8], at: usize)
     }
 }
 
-fn copy(from: &[u8; 48], start: usize, count: usize, out: &mut [u8], at: usize)
+fn copy(from: &[u8; DIGITS], start: usize, count: usize, out: &mut [u8], at: usize)
     requires { ⌜ (length (now from) ≡ 48) × (start + count ≤ 48) × (count ≤ 16) × (at + start + count ≤ length (now out)) ⌝ }
     ensures { λ _. ⌜ now (out .exit) ≡ placed (at + start) (take count (drop start (now (from .entry)))) (now (out .entry)) ⌝ }
 {
@@ -53,7 +54,7 @@ fn copy(from: &[u8; 48], start: usize, count: usize, out: &mut [u8], at: usize)
 }
 
 // The first k bytes of a word in chunks of c bytes; the last chunk may begin within the one before.
-fn copy_by(c: usize, word: &[u8; 48], k: usize, out: &mut [u8], at: usize)
+fn copy_by(c: usize, word: &[u8; DIGITS], k: usize, out: &mut [u8], at: usize)
     requires { ⌜ (length (now word) ≡ 48) × (0 < c) × (c ≤ 16) × (c ≤ k) × (k ≤ 48) × (at + k ≤ length (now out)) ⌝ }
     ensures { λ _. ⌜ now (out .exit) ≡ placed at (take k (now (word .entry))) (now (out .entry)) ⌝ }
 {
@@ -65,7 +66,7 @@ fn copy_by(c: usize, word: &[u8; 48], k: usize, out: &mut [u8], at: usize)
     copy(word, k - c, c, out, at);
 }
 
-fn put(word: &[u8; 48], k: usize, out: &mut [u8], at: usize)
+fn put(word: &[u8; DIGITS], k: usize, out: &mut [u8], at: usize)
     requires { ⌜ (length (now word) ≡ 48) × (k ≤ 48) × (at + k ≤ length (now out)) ⌝ }
     ensures { λ _. ⌜ now (out .exit) ≡ placed at (take k (now (word .entry))) (now (out .entry)) ⌝ }
 {
@@ -110,7 +111,7 @@ fn turn(a: u8, down: bool) -> bool
 }
 
 // A word of n digits: those of `word` but for the last three, which are a, b and c.
-fn put_word(word: &[u8; 48], n: usize, a: u8, b: u8, c: u8, out: &mut [u8], at: usize)
+fn put_word(word: &[u8; DIGITS], n: usize, a: u8, b: u8, c: u8, out: &mut [u8], at: usize)
     requires { ⌜ (length (now word) ≡ 48) × (3 ≤ n) × (n ≤ 48) × (at + n ≤ length (now out)) ⌝ }
     ensures { λ _. ⌜ now (out .exit) ≡ placed at (take (n - 3) (now (word .entry)) ++ (a ∷ b ∷ c ∷ [])) (now (out .entry)) ⌝ }
 {
@@ -156,7 +157,7 @@ impl Window {
 
 // The words in which only the last digit moves; a and b are the two before it.
 fn row(
-    word: &[u8; 48],
+    word: &[u8; DIGITS],
     n: usize,
     a: u8,
     b: u8,
@@ -180,12 +181,13 @@ fn row(
     }
 }
 
-// The words in which only the last two digits move; a is the one before them. None of the three is stored in `word`: to load bytes
-// just after one of them was stored takes long.
+// The words in which only the last two digits move; a is the one before them. None of the three is stored in `word`: to load
+// bytes just after one of them was stored takes long. The window comes as three numbers, since a struct would go by way of
+// memory.
 fn square(
     radices: &[u8],
-    sizes: &[usize; 48],
-    word: &[u8; 48],
+    sizes: &[usize; DIGITS],
+    word: &[u8; DIGITS],
     a: u8,
     down: bool,
     skip: usize,
@@ -218,35 +220,23 @@ fn square(
     }
 }
 
-// The upward lister: i digits stand fixed in `word`, and the next one goes through its notches, 0 first. After an even notch the
-// digits that remain are listed upward too, after an odd one downward.
+// The upward lister: i digits stand fixed in `word`, and the next one goes through its notches, 0 first. After an even notch
+// the digits that remain are listed upward too, after an odd one downward.
 fn up(
     radices: &[u8],
-    sizes: &[usize; 48],
-    word: &mut [u8; 48],
+    sizes: &[usize; DIGITS],
+    word: &mut [u8; DIGITS],
     i: usize,
-    skip: usize,
-    left: usize,
+    mut w: Window,
     out: &mut [u8],
-    start: usize,
 )
-    requires { ⌜ Reached (now radices) (now sizes) (now word) i skip left (now out) start ⌝ }
-    ensures { λ _. ⌜ now (out .exit) ≡ laid start (take i (now (word .entry))) (window skip left (listing false (drop i (now (radices .entry))))) (now (out .entry)) ⌝ }
-    ensures { λ _. ⌜ take i (now (word .exit)) ≡ take i (now (word .entry)) ⌝ }
-    ensures { λ _. ⌜ length (now (word .exit)) ≡ 48 ⌝ }
+    requires { ⌜ (i < length (now radices)) × Reached (now radices) (now sizes) (now word) i (w .skip) (w .left) (now out) (w .at) ⌝ }
+    ensures { λ _. ⌜ Listed false (drop i (now (radices .entry))) i (take i (now (word .entry))) (now (word .entry)) (now (word .exit))
+        (w .skip) (w .left) (w .at) (now (out .entry)) (now (out .exit)) ⌝ }
 {
     let n = radices.len();
-    if i == n {
-        put(word, n, out, start);
-        return;
-    }
     let m = wide(radices[i]);
     let q = sizes[i];
-    let mut w = Window {
-        skip: skip,
-        left: left,
-        at: start,
-    };
     let mut u = 0;
     while (u < m) & (0 < w.left) {
         if w.skip < q {
@@ -255,12 +245,7 @@ fn up(
             if i + 3 == n {
                 square(radices, sizes, word, a, downward, w.skip, w.left, out, w.at);
             } else {
-                word[i] = a;
-                if downward {
-                    down(radices, sizes, word, i + 1, w.skip, w.left, out, w.at);
-                } else {
-                    up(radices, sizes, word, i + 1, w.skip, w.left, out, w.at);
-                }
+                remaining(radices, sizes, word, i, a, downward, w, out);
             }
         }
         w = w.past(q, n);
@@ -268,35 +253,23 @@ fn up(
     }
 }
 
-// The downward lister: the next digit goes from its last notch to 0. After an even notch the digits that remain are listed downward
-// too, after an odd one upward.
+// The downward lister: the next digit goes from its last notch to 0. After an even notch the digits that remain are listed
+// downward too, after an odd one upward.
 fn down(
     radices: &[u8],
-    sizes: &[usize; 48],
-    word: &mut [u8; 48],
+    sizes: &[usize; DIGITS],
+    word: &mut [u8; DIGITS],
     i: usize,
-    skip: usize,
-    left: usize,
+    mut w: Window,
     out: &mut [u8],
-    start: usize,
 )
-    requires { ⌜ Reached (now radices) (now sizes) (now word) i skip left (now out) start ⌝ }
-    ensures { λ _. ⌜ now (out .exit) ≡ laid start (take i (now (word .entry))) (window skip left (listing true (drop i (now (radices .entry))))) (now (out .entry)) ⌝ }
-    ensures { λ _. ⌜ take i (now (word .exit)) ≡ take i (now (word .entry)) ⌝ }
-    ensures { λ _. ⌜ length (now (word .exit)) ≡ 48 ⌝ }
+    requires { ⌜ (i < length (now radices)) × Reached (now radices) (now sizes) (now word) i (w .skip) (w .left) (now out) (w .at) ⌝ }
+    ensures { λ _. ⌜ Listed true (drop i (now (radices .entry))) i (take i (now (word .entry))) (now (word .entry)) (now (word .exit))
+        (w .skip) (w .left) (w .at) (now (out .entry)) (now (out .exit)) ⌝ }
 {
     let n = radices.len();
-    if i == n {
-        put(word, n, out, start);
-        return;
-    }
     let m = wide(radices[i]);
     let q = sizes[i];
-    let mut w = Window {
-        skip: skip,
-        left: left,
-        at: start,
-    };
     let mut u = 0;
     while (u < m) & (0 < w.left) {
         if w.skip < q {
@@ -305,12 +278,7 @@ fn down(
             if i + 3 == n {
                 square(radices, sizes, word, a, downward, w.skip, w.left, out, w.at);
             } else {
-                word[i] = a;
-                if downward {
-                    down(radices, sizes, word, i + 1, w.skip, w.left, out, w.at);
-                } else {
-                    up(radices, sizes, word, i + 1, w.skip, w.left, out, w.at);
-                }
+                remaining(radices, sizes, word, i, a, downward, w, out);
             }
         }
         w = w.past(q, n);
@@ -318,12 +286,40 @@ fn down(
     }
 }
 
+// Digit i stands at notch a, and the downward or the upward lister lists the digits that remain; where none remains the word is
+// written as it stands. For the last two digits the listers call `square` themselves: a call in between would be felt there.
+fn remaining(
+    radices: &[u8],
+    sizes: &[usize; DIGITS],
+    word: &mut [u8; DIGITS],
+    i: usize,
+    a: u8,
+    downward: bool,
+    w: Window,
+    out: &mut [u8],
+)
+    requires { ⌜ (i < length (now radices))
+        × Reached (now radices) (now sizes) (set (now word) i a) (i + 1) (w .skip) (w .left) (now out) (w .at) ⌝ }
+    ensures { λ _. ⌜ Listed downward (drop (i + 1) (now (radices .entry))) i (take i (now (word .entry)) ++ (a ∷ []))
+        (now (word .entry)) (now (word .exit)) (w .skip) (w .left) (w .at) (now (out .entry)) (now (out .exit)) ⌝ }
+{
+    word[i] = a;
+    let next = i + 1;
+    if next == radices.len() {
+        put(word, next, out, w.at);
+    } else if downward {
+        down(radices, sizes, word, next, w, out);
+    } else {
+        up(radices, sizes, word, next, w, out);
+    }
+}
+
 // For each digit the number of words of the digits after it.
-fn block_sizes(radices: &[u8]) -> [usize; 48]
+fn block_sizes(radices: &[u8]) -> [usize; DIGITS]
     requires { ⌜ (length (now radices) ≤ 48) × (allFrom 1 (now radices) ≡ true) × (sizeOf (now radices) ≤ 2 ^ 62) ⌝ }
     ensures { λ r. ⌜ (length r ≡ 48) × Sized (now (radices .entry)) r ⌝ }
 {
-    let mut sizes = [1usize; 48];
+    let mut sizes = [1usize; DIGITS];
     let mut q = 1;
     let mut i = radices.len();
     while 0 < i {
@@ -364,10 +360,15 @@ pub fn list(radices: &[u8], from: u64, count: u64, out: &mut [u8]) -> Written
         return Written::Bytes(0);
     }
     let sizes = block_sizes(radices);
-    let mut word = [0u8; 48];
+    let mut word = [0u8; DIGITS];
     let first = from as usize;
     let words = count as usize;
-    up(radices, &sizes, &mut word, 0, first, words, out, 0);
+    let window = Window {
+        skip: first,
+        left: words,
+        at: 0,
+    };
+    up(radices, &sizes, &mut word, 0, window, out);
     let length = words * n;
     Written::Bytes(length)
 }

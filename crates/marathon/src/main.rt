@@ -1,9 +1,11 @@
-// Walks a survey from its first setting to its end, by the buffered engine with half of n places rounded up and then by the disk
-// engine, and prints for each the number of moves and the last setting, or its refusal. Input is a line as `walk` reads it. Any
-// other text prints `unread`, a refused survey its number.
+// Walks a survey from its first setting to its end, by the buffered engine with half of n places rounded up and then by the
+// disk engine, and prints for each the number of moves and the last setting, or its refusal, or `unfinished` where it has not
+// ended after N moves. Input is a line as `walk` reads it. Any other text prints `unread`, a refused survey its number.
 
 use ahead::Walk;
+use engines::Engine;
 use gray::Counted;
+use gray::DIGITS;
 use gray::Opening;
 use gray::Running;
 use reader::Found;
@@ -12,18 +14,17 @@ use towers::Towers;
 ghost use Prim.Native.Nat.{_≤_};
 ghost use lib.ListN.{length};
 
-// How a walk came out: the last setting, the whole parts of it that were made, and the answer of the run that ended it.
-struct Finish {
-    word: [u8; 48],
-    parts: u64,
-    answer: Running,
+// How a walk came out: the end after so many moves, a run that was refused or stopped, or no end in N moves.
+enum Outcome {
+    Finished(u64),
+    Refused(u8),
+    Unfinished,
 }
 
-// What a run of one engine leaves, and the other engine's state as it was.
-struct Part {
-    walk: Walk,
-    towers: Towers,
-    answer: Running,
+// An engine as its walk has left it, and how that came out.
+struct Finish {
+    engine: Engine,
+    outcome: Outcome,
 }
 
 fn print(bytes: &[u8]) {
@@ -34,59 +35,42 @@ fn wide(x: u8) -> u64 {
     x as u64
 }
 
-// A run of the one engine or the other. The bytes of its moves are left.
-fn run_part(walk: Walk, towers: Towers, disks: bool, bytes: &mut [u8]) -> Part {
-    if disks {
-        let ran = towers.run(4096, bytes);
-        let next = ran.towers;
-        let answer = ran.answer;
-        return Part {
-            walk: walk,
-            towers: next,
-            answer: answer,
-        };
-    }
-    let ran = walk.run(4096, bytes);
-    let next = ran.walk;
-    let answer = ran.answer;
-    Part {
-        walk: next,
-        towers: towers,
-        answer: answer,
+// The moves of whole parts and of the last run. N is at most 2^62, so that nothing is cut off here.
+fn moves_in(parts: u64, last: u64) -> u64 {
+    parts % 0x0008_0000_0000_0000 * 4096 + last % 4096
+}
+
+// After whole parts comes a run that answers this.
+fn outcome_of(parts: u64, answer: Running) -> Outcome {
+    match answer {
+        Running::Made(_) => Outcome::Unfinished,
+        Running::Ended(last) => Outcome::Finished(moves_in(parts, last)),
+        Running::Stopped(_, k) => Outcome::Refused(k),
+        Running::Refused(k) => Outcome::Refused(k),
     }
 }
 
-// Runs of 4,096 moves are made until one does not make them all.
-fn run(walk: Walk, towers: Towers, disks: bool, total: u64) -> Finish {
+// Runs of 4,096 moves are made until one does not make them all. The bytes of the moves are left.
+fn run(fresh: Engine, total: u64) -> Finish {
     let mut bytes = [0u8; 4096];
-    let mut ahead = walk;
-    let mut pegs = towers;
+    let mut engine = fresh;
     let mut parts: u64 = 0;
     while parts <= total / 4096 {
-        let part = run_part(ahead, pegs, disks, &mut bytes);
-        ahead = part.walk;
-        pegs = part.towers;
-        let answer = part.answer;
+        let ran = engine.run(4096, &mut bytes);
+        engine = ran.engine;
+        let answer = ran.answer;
         let Running::Made(_) = answer else {
-            let word = if disks { pegs.word } else { ahead.word };
             return Finish {
-                word: word,
-                parts: parts,
-                answer: answer,
+                engine: engine,
+                outcome: outcome_of(parts, answer),
             };
         };
         parts += 1;
     }
     Finish {
-        word: [0; 48],
-        parts: parts,
-        answer: Running::Refused(0),
+        engine: engine,
+        outcome: Outcome::Unfinished,
     }
-}
-
-// The moves of whole parts and of the last run. N is at most 2^62, so that nothing is cut off here.
-fn moves_in(parts: u64, last: u64) -> u64 {
-    parts % 0x0008_0000_0000_0000 * 4096 + last % 4096
 }
 
 fn print_number(n: u64) {
@@ -99,18 +83,8 @@ fn print_refused(k: u8) {
     print(b"\n");
 }
 
-// What stopped or refused a run; 0 where nothing did.
-fn number(answer: Running) -> u8 {
-    match answer {
-        Running::Made(_) => 0,
-        Running::Ended(_) => 0,
-        Running::Stopped(_, k) => k,
-        Running::Refused(k) => k,
-    }
-}
-
 // A setting: its first n digits, the last of them first, joined by points.
-fn print_word(word: [u8; 48], n: usize)
+fn print_word(word: [u8; DIGITS], n: usize)
     requires { ⌜ n ≤ 48 ⌝ }
 {
     let mut i = n;
@@ -123,20 +97,26 @@ fn print_word(word: [u8; 48], n: usize)
     }
 }
 
+fn print_finished(n: usize, moves: u64, word: [u8; DIGITS])
+    requires { ⌜ n ≤ 48 ⌝ }
+{
+    print(b"moves ");
+    print_number(moves);
+    print(b" last ");
+    print_word(word, n);
+    print(b"\n");
+}
+
 fn print_finish(n: usize, finish: Finish)
     requires { ⌜ n ≤ 48 ⌝ }
 {
-    let answer = finish.answer;
-    let Running::Ended(last) = answer else {
-        print_refused(number(answer));
-        return;
-    };
-    print(b"moves ");
-    print_number(moves_in(finish.parts, last));
-    print(b" last ");
-    let word = finish.word;
-    print_word(word, n);
-    print(b"\n");
+    let engine = finish.engine;
+    let outcome = finish.outcome;
+    match outcome {
+        Outcome::Finished(moves) => print_finished(n, moves, engine.setting()),
+        Outcome::Refused(k) => print_refused(k),
+        Outcome::Unfinished => print(b"unfinished\n"),
+    }
 }
 
 // The two walks of a survey: `total` is N.
@@ -151,7 +131,8 @@ fn walk_ahead(radices: &[u8], total: u64)
         print_refused(k);
         return;
     }
-    print_finish(n, run(opened.walk, Towers::closed(), false, total));
+    let fresh = opened.walk;
+    print_finish(n, run(Engine::of_walk(fresh), total));
 }
 
 fn walk_disks(radices: &[u8], total: u64)
@@ -165,7 +146,8 @@ fn walk_disks(radices: &[u8], total: u64)
         print_refused(k);
         return;
     }
-    print_finish(n, run(Walk::closed(), opened.towers, true, total));
+    let fresh = opened.towers;
+    print_finish(n, run(Engine::of_towers(fresh), total));
 }
 
 fn walk_all(radices: &[u8]) {

@@ -17,24 +17,15 @@ use Rattle.reader.specs.declared.Phase.{Phase}
 use Rattle.reader.specs.declared.Phase.the-variants.{More, Ended, Unread}
 use Rattle.reader.specs.declared.Reader.{Reader}
 use Rattle.reader.specs.declared.Found.the-variants.{Counts}
-use Rattle.reader.specs.declared.Parsed.{Parsed}
 use Rattle.reader.specs.declared.Parsed.the-variants.{Number, Unread as NoNumber}
-use Rattle.reader.specs.declared.Count.{Count}
 use Rattle.reader.specs.declared.Count.the-variants.{Is, Unread as NoCount}
 
 pub full : (r : Reader) (b : ℕ) → 3 ≤ r .digits → byteRead r b ≡ inPhase Unread r
 unfolding byteRead
 full r b h = rw (le-ltb (r .digits) 3 h) refl
 
-pub found-many : (p : Phase) (n : ℕ) → p ≡ Ended → 49 < n → Counts 49 ≡ foundIn p n
-found-many p n e h =
-    let least : 49 ≡ min n 49 = omega arith in
-    ap Counts least ∙ ap (λ q. foundIn q n) (sym e)
-
-pub found-few : (p : Phase) (n : ℕ) → p ≡ Ended → n ≤ 49 → Counts n ≡ foundIn p n
-found-few p n e h =
-    let least : n ≡ min n 49 = omega arith in
-    ap Counts least ∙ ap (λ q. foundIn q n) (sym e)
+pub found-kept : (p : Phase) (n r : ℕ) → p ≡ Ended → r ≡ min n 49 → Counts r ≡ foundIn p n
+found-kept p n r e least = ap Counts least ∙ ap (λ q. foundIn q n) (sym e)
 
 -- ---- a field as a count
 -- which case of a test an answer came by

@@ -1,4 +1,5 @@
--- The reader of the line of counts as a machine over bytes, so that the input can come in parts. What it comes to is in `Reading`.
+-- The reader of the line of counts as a machine over bytes, so that the input can come in parts. What it comes to is in
+-- `Reading`.
 use Prim.Native.Nat.{ℕ, _+_, min}
 use mathlib.Core.Bool.{cond, _&&_}
 use mathlib.Core.List.{List, [], _∷_}

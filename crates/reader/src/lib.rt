@@ -1,5 +1,6 @@
 // What the program `walk` reads: decimal numbers, and the line of notch counts.
 
+use gray::DIGITS;
 ghost use mathlib.Core.Path.{_≡_};
 ghost use Prim.Native.Nat.{_≤_, min};
 ghost use lib.ListN.{length};
@@ -21,10 +22,12 @@ pub enum Phase {
     Unread,
 }
 
-// The reader of the line of counts: the counts so far, of which 49 at the most are kept (49 are too many already), and the bytes of
-// the field that is being read.
+// How many counts a reader keeps at the most: so many are too many already.
+const KEPT: usize = DIGITS + 1;
+
+// The reader of the line of counts: the counts so far, and the bytes of the field that is being read.
 pub struct Reader {
-    pub counts: [u8; 49],
+    pub counts: [u8; KEPT],
     pub kept: u8,
     pub field: [u8; 3],
     pub digits: u8,
@@ -48,13 +51,13 @@ enum Count {
 fn digit(byte: u8) -> u64
     ensures { λ r. ⌜ r ≡ digitOf byte ⌝ }
 {
-    if byte < 48 {
+    if byte < b'0' {
         return 10;
     }
-    if 57 < byte {
+    if b'9' < byte {
         return 10;
     }
-    (byte - 48) as u64
+    (byte - b'0') as u64
 }
 
 // The number that decimal digits say, where there is one digit at least and 64 bits hold the value.
@@ -109,7 +112,7 @@ impl Reader {
         ensures { λ r. ⌜ r ≡ freshReader ⌝ }
     {
         Reader {
-            counts: [0; 49],
+            counts: [0; KEPT],
             kept: 0,
             field: [0; 3],
             digits: 0,
@@ -166,14 +169,15 @@ impl Reader {
         self.keep(value, next)
     }
 
-    // One count more; the 50th and later ones are passed over.
+    // One count more; those that come after the last that is kept are passed over.
     fn keep(self, value: u8, next: Phase) -> Reader
         ensures { λ r. ⌜ r ≡ countKept self value next ⌝ }
     {
         let mut counts = self.counts;
         let field = self.field;
         let kept = self.kept;
-        if 49 <= kept {
+        let place = kept as usize;
+        if KEPT <= place {
             return Reader {
                 counts: counts,
                 kept: kept,
@@ -182,7 +186,7 @@ impl Reader {
                 phase: next,
             };
         }
-        counts[kept as usize] = value;
+        counts[place] = value;
         Reader {
             counts: counts,
             kept: kept + 1,
@@ -245,12 +249,7 @@ impl Reader {
         match phase {
             Phase::More => Found::More,
             Phase::Unread => Found::Unread,
-            Phase::Ended => {
-                if 49 < kept {
-                    return Found::Counts(49);
-                }
-                Found::Counts(kept as usize)
-            }
+            Phase::Ended => Found::Counts(up_to(KEPT, kept)),
         }
     }
 }

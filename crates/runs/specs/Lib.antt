@@ -1,3 +1,3 @@
--- What private functions answer.
+-- What the calls and private functions answer.
 pub mod Enums
-pub mod Beginnings
+pub mod Stages

@@ -27,8 +27,8 @@ use Rattle.ahead_theory.specs.WorkAhead.{fresh-walks-work-ahead, fresh-walks-st
 use Rattle.towers_theory.specs.States as games
 use Rattle.towers_theory.specs.Calls as towers
 use Rattle.towers_theory.specs.Openings as towers-opens
-use Rattle.towers_theory.specs.Walks.{disks-walk-the-list}
-use Rattle.runs_theory.specs.Runs.{Moves, openedRun, walkMovesCall, diskMovesCall, listMoves}
+use Rattle.towers_theory.specs.DisksWalk.{disks-walk-the-list}
+use Rattle.runs_theory.specs.MoveCalls.{Moves, openedRun, walkMovesCall, diskMovesCall, listMoves}
 
 -- ---- what is written
 -- the moves of the list after the first r: all that are asked for, where call d, which does not move, comes after them; else the d − 1

@@ -20,15 +20,15 @@ use Rattle.ahead_theory.specs.Calls as ahead
 use Rattle.ahead_theory.specs.Openings.{opens-exactly}
 use Rattle.ahead_theory.specs.Demand.{WorksAhead}
 use Rattle.ahead_theory.specs.WorkAhead.{fresh-walks-work-ahead}
-use Rattle.ahead_theory.specs.Runs.{answer}
+use Rattle.ahead_theory.specs.Events.{answer}
 use Rattle.ahead_theory.specs.Pickups.{resumeOf}
 use Rattle.ahead_theory.specs.GoingOn.{NamesFrom, Does, Does.names, Does.is-end, Does.is-dry, KeepsToTheList}
 use Rattle.ahead_theory.specs.PickedUp.{resumes-exactly, picked-up-walks-go-on, picked-up-walks-keep-to-the-list}
-use Rattle.runs_theory.specs.Runs.{openedRun, resumedMovesCall, listMoves}
+use Rattle.runs_theory.specs.MoveCalls.{openedRun, resumedMovesCall, listMoves}
 use Rattle.runs_theory.specs.Agree.{Halts.ends, Halts.refuses, StopsAt, writesFirst, writes-first}
 
 -- calls 1 to d − 1 from rank r name their changes, and call d, at most call N − r, does not move
-record Stops (ms : List ℕ) (r : ℕ) (w : walks.Walk) : Type 0 where
+record FirstStop (ms : List ℕ) (r : ℕ) (w : walks.Walk) : Type 0 where
   d : ℕ
   stop : Stop
   within : r + d ≤ size ms
@@ -47,7 +47,7 @@ module _ (ms : List ℕ) (c r : ℕ) (w : walks.Walk) (keeps : KeepsToTheList ms
       ]
 
   -- it is call k + 1, or a later one
-  stops-or : (k : ℕ) → r + suc k ≤ size ms → Moved k → Does ms r w (suc k) → (r + suc k < size ms → NamesFrom ms r w (suc k) → Stops ms r w) → Stops ms r w
+  stops-or : (k : ℕ) → r + suc k ≤ size ms → Moved k → Does ms r w (suc k) → (r + suc k < size ms → NamesFrom ms r w (suc k) → FirstStop ms r w) → FirstStop ms r w
   stops-or k within moves (names less n) later = later less n
   stops-or k within moves (is-end past says) later =
       record { d = suc k; stop = end; within = within; stops = record { from-one = omega arith; moves = moves; halts = ends says refl } }
@@ -55,7 +55,7 @@ module _ (ms : List ℕ) (c r : ℕ) (w : walks.Walk) (keeps : KeepsToTheList ms
       record { d = suc k; stop = refusal 10; within = within; stops = record { from-one = omega arith; moves = moves; halts = refuses 10 says refl } }
 
   -- there are g more calls up to call N − r
-  first-stop : (g k : ℕ) → r + suc k + g ≡ size ms → Moved k → Stops ms r w
+  first-stop : (g k : ℕ) → r + suc k + g ≡ size ms → Moved k → FirstStop ms r w
   first-stop zero k e moves = stops-or k (omega arith) moves (keeps .calls (suc k) (omega arith)) (λ less n. absurd (omega arith))
   first-stop (suc g) k e moves =
       stops-or k (omega arith) moves (keeps .calls (suc k) (omega arith))

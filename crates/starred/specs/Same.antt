@@ -24,7 +24,7 @@ showsBool true false e = impossible (cc)
 showsBool false true e = impossible (cc)
 showsBool false false e = refl
 
-abbrev pub sameChange : Change → Change → Bool
+abbrev sameChange : Change → Change → Bool
 sameChange c d = eqb (c .digit) (d .digit) && Bool·beq (c .down) (d .down)
 
 pub showsChange : (c d : Change) → sameChange c d ≡ true → c ≡ d
@@ -35,7 +35,7 @@ showsChange c d e =
 abbrev pub changes : Test Change
 changes = record { same = sameChange; shows = showsChange }
 
-abbrev pub sameEvent : Event → Event → Bool
+abbrev sameEvent : Event → Event → Bool
 sameEvent (moved c) (moved d) = sameChange c d
 sameEvent (moved c) ended = false
 sameEvent ended (moved d) = false
@@ -55,7 +55,7 @@ abbrev pub units : Test Unit
 units = record { same = λ a b. true; shows = λ a b e. refl }
 
 module _ {A : Type 0} (t : Test A) where
-  abbrev pub sameList : List A → List A → Bool
+  abbrev sameList : List A → List A → Bool
   sameList [] [] = true
   sameList [] (b ∷ m) = false
   sameList (a ∷ l) [] = false
@@ -69,7 +69,7 @@ module _ {A : Type 0} (t : Test A) where
       let (first, others) = and-eq-true-iff (t .same a b) (sameList l m) .0 e in
       ap₂ (λ x y. x ∷ y) (t .shows a b first) (showsList l m others)
 
-  abbrev pub sameAnswer : Answer A → Answer A → Bool
+  abbrev sameAnswer : Answer A → Answer A → Bool
   sameAnswer (given a) (given b) = t .same a b
   sameAnswer (given a) (refused k) = false
   sameAnswer (refused j) (given b) = false

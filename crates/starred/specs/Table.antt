@@ -15,11 +15,12 @@ use Rattle.gray_theory.specs.Costs.{wholeParts, cost}
 use Rattle.gray_theory.specs.Calls.{sizeCall, rankCall}
 use Rattle.gray_theory.specs.Directions.{allBelow}
 use Rattle.gray_theory.specs.MoveBytes.{moveByte}
+use Rattle.gray_theory.specs.DirectedWords.{wordInRange, digitMoved}
 use Rattle.gray_theory.specs.Engines.{Event, moved, ended, after, answerOf}
 use Rattle.ahead_theory.specs.States.{Walk, setting, producerInRange, inRange}
 use Rattle.ahead_theory.specs.Work.{Work, carry, append, idle, kind, done}
 use Rattle.ahead_theory.specs.Calls.{fresh, closedWalk, openOf, twice, course, dequeued, endOf, moveOf, stepOf}
-use Rattle.ahead_theory.specs.Runs.{state, answer, events as eventsOf}
+use Rattle.ahead_theory.specs.Events.{state, answer, events as eventsOf}
 use Rattle.towers_theory.specs.States.{Towers, allOdd, allEvenAndEqual, setting as diskSetting, inRange as disksInRange}
 use Rattle.towers_theory.specs.Choices.{pegOf, smallest, chosen}
 use Rattle.towers_theory.specs.Calls.{closedTowers, fresh as freshDisks, openOf as openDisks, moveOf as moveDisk, stepOf as stepDisks}
@@ -219,7 +220,7 @@ each (r ∷ rs) e zero h = r .test .shows (r .computed) (r .said) (and-eq-true-i
 each (r ∷ rs) e (suc i) h = each rs (and-eq-true-iff (r .test .same (r .computed) (r .said)) (passes rs) .0 e .1) i (omega arith)
 
 tested : passes table ≡ true
-unfolding passes table unlocked moving movingInRange sizeCall rankCall size allFrom upward downward notches through list isWord rank difference ruler wholeParts allBelow after producerInRange inRange kind done fresh openOf course dequeued endOf moveOf stepOf eventsOf allOdd allEvenAndEqual disksInRange pegOf smallest chosen freshDisks openDisks moveDisk stepDisks listCall flatten blocks listing moveByte highFirst digitRecords movesFrom logOf movesThenEnd digitsThenMoves shaped radicesOf countMoves sameBytes writeCall readCall movesCall
+unfolding passes table unlocked moving movingInRange sizeCall rankCall size allFrom upward downward notches through list isWord rank difference ruler wholeParts allBelow after producerInRange inRange kind done fresh openOf course dequeued endOf moveOf digitMoved wordInRange stepOf eventsOf allOdd allEvenAndEqual disksInRange pegOf smallest chosen freshDisks openDisks moveDisk stepDisks listCall flatten blocks listing moveByte highFirst digitRecords movesFrom logOf movesThenEnd digitsThenMoves shaped radicesOf countMoves sameBytes writeCall readCall movesCall
 tested = refl
 
 -- every row of the table holds

@@ -9,14 +9,14 @@ use Rattle.ahead_theory.specs.Locals.{Fast, leftMoved, bytesMoved, fastWork, fa
 use Rattle.ahead_theory.specs.Locals as theory
 use Rattle.ahead_theory.specs.Stretches.{backed, Undone, dry-undone, Kept, work-kept, twice-kept}
 use Rattle.stretch.specs.declared.Stage.{Stage}
-use Rattle.stretch.specs.Stages.{fastOf, calledAs, Workable, Movable, Moves, Callable}
+use Rattle.stretch.specs.Stages.{fastOf, calledAs, FastWorkable, FastMovable, Moves, FastCallable}
 
 abbrev answer : ℕ → ℕ → Fast → List ℕ → List ℕ → theory.Called
 answer kind byte g left bytes = record { kind = kind; byte = byte; fast = g; left = left; bytes = bytes }
 
 module _
     (last c k : ℕ) (tops rest queue left bytes : List ℕ) (at : Stage)
-    (ok : Callable last c k tops rest queue left bytes at)
+    (ok : FastCallable last c k tops rest queue left bytes at)
   where
     abbrev f : Fast
     f = fastOf rest queue at
@@ -27,7 +27,7 @@ module _
     -- the second work step can be made
     pub workable-again : (rest′ queue′ : List ℕ) (at′ : Stage)
         → fastOf rest′ queue′ at′ ≡ fastWork tops last (k + c) f
-        → Workable tops last (k + c) rest′ queue′ at′
+        → FastWorkable tops last (k + c) rest′ queue′ at′
     workable-again rest′ queue′ at′ e =
         let kept : Kept last 1 f (fastOf rest′ queue′ at′) =
         subst (Kept last 1 f) (sym e) (work-kept tops last (k + c) (ok .from-one) f (ok .to-last)) in
@@ -50,7 +50,7 @@ module _
         }
 
     -- a digit can move
-    pub movable : (e : ℕ) → e ≤ 255 → Movable tops left bytes e
+    pub movable : (e : ℕ) → e ≤ 255 → FastMovable tops left bytes e
     movable e l = record { tops-long = ok .tops-long; left-long = ok .left-long; bytes-long = ok .bytes-long; inside = l }
 
     -- ---- after both

@@ -4,7 +4,7 @@ use mathlib.Core.Path.{_≡_, refl, sym}
 use mathlib.Core.Bool.{false, _&&_}
 use mathlib.Core.List.{List}
 use borrow.Author.Tests.{lt-ltb, le-ltb, le-leb, lt-leb, eq-eqb, ne-eqb}
-use lib.Dec.{eqb, leb}
+use lib.Dec.{eqb, leb, ltb, leb·suc-suc}
 use lib.ListN.{length, getD, set}
 use lib.Seq.{set-getD}
 use Rattle.ahead_theory.specs.Locals.{fastWork, turnedByte}
@@ -78,9 +78,9 @@ module _ (last c limit : ℕ) (tops rest left bytes : List ℕ) (at : Stage) (do
 
   pub fits-some : done ≤ length out
       → (((eqb (length tops) 256 && (eqb (length rest) 256 && (eqb (length left) 256 && eqb (length bytes) 256)))
-      && ((leb 1 last && leb last 255)
+      && ((leb 1 last && ltb last 256)
       && (leb (at .place) last && (leb c 32 && (leb limit 1024 && leb (at .steps) (2 ^ 63))))))
       && leb limit (length out - done))
       ≡ fitsFor last c limit tops rest left bytes at done out
   unfolding fitsFor
-  fits-some l = rw (le-ltb (length out) done l)
+  fits-some l = rw (le-ltb (length out) done l, leb·suc-suc last 255)

@@ -1,12 +1,12 @@
--- The loop of a stretch: after k turns, the bytes of k calls that moved stand in the output, and what all calls leave is these and what
--- the calls from here on leave. And the whole stretch around it. Assumes nothing.
+-- The loop of a stretch: after k turns, the bytes of k calls that moved stand in the output, and what all calls leave is these
+-- and what the calls from here on leave. And the whole stretch around it. Assumes nothing.
 use Prim.Native.Nat.{ℕ, suc, _+_, _-_, _^_, _≤_, _<_}
 use native.Mathlib.Decide.{decLt}
 use native.Mathlib.Omega.{arith}
 use mathlib.Core.Path.{_≡_, refl, sym, ap, subst, _∙_}
 use mathlib.Core.Bool.{Bool, true, false, cond, not, false≢true, and-eq-true-iff}
 use mathlib.Core.List.{List, [], _∷_, _++_, append-nil, append-assoc}
-use borrow.Author.Tests.{leb-true, eqb-true, not-true, not-false, eq-eqb, ne-eqb}
+use borrow.Author.Tests.{ltb-true, leb-true, eqb-true, not-true, not-false, eq-eqb, ne-eqb}
 use lib.Dec.{eqb}
 use lib.ListN.{length, set, take, drop, length-append}
 use Rattle.gray_theory.specs.Arrays.{filled}
@@ -19,7 +19,7 @@ use Rattle.stretch.specs.declared.Stage.{Stage}
 use Rattle.stretch.specs.declared.Called.{Called}
 use Rattle.stretch.specs.declared.Ran.{Ran}
 use Rattle.stretch.proofs.Paths.{fits-none, fits-some}
-use Rattle.stretch.specs.Stages.{fastOf, calledAs, Outcome, ranAs, ranInto, callsBy, stretchAs, fromOldest, fitsFor, stretchBy, Callable, Long, Runnable}
+use Rattle.stretch.specs.Stages.{fastOf, calledAs, Outcome, ranAs, ranInto, callsBy, stretchAs, fromOldest, fitsFor, stretchBy, FastCallable, Long, Runnable}
 
 -- the arrays' lengths stay the same
 pub record Same (rest queue left bytes rest₀ queue₀ left₀ bytes₀ : List ℕ) : Type 0 where
@@ -134,7 +134,7 @@ module _ (last c limit : ℕ) (tops rest₀ queue₀ left₀ bytes₀ : List ℕ
         (ap (λ j. fastRun tops last c j k f left bytes) none)
 
     module _ (less : k < limit) where
-      pub callable : Callable last c k tops rest queue left bytes at
+      pub callable : FastCallable last c k tops rest queue left bytes at
       callable =
           let b = g .fits in
           let calls = b .calls in
@@ -278,7 +278,7 @@ module _ (last c limit : ℕ) (tops rest left bytes entries : List ℕ) (at : St
               };
               tops-long = eqb-true (length tops) 256 t;
               from-one = leb-true 1 last l1;
-              most = leb-true last 255 l2;
+              most = let less = ltb-true last 256 l2 in omega arith;
               to-last = leb-true (at .place) last p;
               small-c = leb-true c 32 c1;
               calls = leb-true limit 1024 m;

@@ -124,7 +124,7 @@ stretchBy last c limit tops rest left bytes entries at done out =
     (stretchAs (record { made = 0; entries = entries; at = at; stop = 3 }) rest left bytes out)
 
 -- ---- the private functions
-pub record Workable (tops : List ℕ) (last bound : ℕ) (rest queue : List ℕ) (at : Stage) : Type 0 where
+pub record FastWorkable (tops : List ℕ) (last bound : ℕ) (rest queue : List ℕ) (at : Stage) : Type 0 where
   pub tops-long : length tops ≡ 256
   pub rest-long : length rest ≡ 256
   pub to-last : at .place ≤ last
@@ -133,7 +133,7 @@ pub record Workable (tops : List ℕ) (last bound : ℕ) (rest queue : List ℕ)
   pub few : length queue ≡ 1056
   pub small : at .steps + 1 < 2 ^ 64
 
-pub record Movable (tops left bytes : List ℕ) (i : ℕ) : Type 0 where
+pub record FastMovable (tops left bytes : List ℕ) (i : ℕ) : Type 0 where
   pub tops-long : length tops ≡ 256
   pub left-long : length left ≡ 256
   pub bytes-long : length bytes ≡ 256
@@ -144,7 +144,7 @@ pub record Moves (tops left bytes : List ℕ) (i byte : ℕ) (left′ bytes′ :
   pub left-is : left′ ≡ leftMoved tops left i
   pub bytes-is : bytes′ ≡ bytesMoved left bytes i
 
-pub record Callable (last c k : ℕ) (tops rest queue left bytes : List ℕ) (at : Stage) : Type 0 where
+pub record FastCallable (last c k : ℕ) (tops rest queue left bytes : List ℕ) (at : Stage) : Type 0 where
   pub tops-long : length tops ≡ 256
   pub rest-long : length rest ≡ 256
   pub left-long : length left ≡ 256

@@ -1,33 +1,34 @@
-// A stretch of a run of moves: the buffered engine's calls on arrays that the run holds, in a quicker form than a state's own. Places of
-// the counter, and digits that move by their places, are the indexes of arrays of 256 bytes, so that any byte is one. The queue of its
-// calls is long: a removal leaves its entry behind, and nothing is shifted before the stretch is over.
+// A stretch of a run of moves: the buffered engine's calls on arrays that the run holds, in a quicker form than a state's own.
+// Places of the counter, and digits that move by their places, are the indexes of arrays of 256 bytes, so that any byte is one.
+// The queue of its calls is long: a removal leaves its entry behind, and nothing is shifted before the stretch is over.
+use gray::CAPACITY;
 ghost use mathlib.Core.Path.{_≡_};
 ghost use Prim.Native.Nat.{_+_, _≤_};
 ghost use lib.ListN.{length, take, drop};
 ghost use Rattle.gray_theory.specs.Arrays.{filled};
 ghost use Rattle.ahead_theory.specs.Locals.{fastWork, turnedByte, fastCall};
 ghost use Rattle.ahead_theory.specs.Stretches.{backed};
-ghost use Rattle.stretch.specs.Stages.{fastOf, calledAs, ranAs, callsBy, stretchAs, stretchBy, Workable, Movable, Moves, Callable, Runnable, fitsFor};
+ghost use Rattle.stretch.specs.Stages.{fastOf, calledAs, ranAs, callsBy, stretchAs, stretchBy, FastWorkable, FastMovable, Moves, FastCallable, Runnable, fitsFor};
 
-// The numbers of a run: the place that the counter has come to, the place in the queue where the next entry goes, and the useful steps
-// made.
+// The numbers of a run: the place that the counter has come to, the place in the queue where the next entry goes, and the
+// useful steps made.
 pub struct Stage {
     pub place: usize,
     pub tail: usize,
     pub steps: u64,
 }
 
-// What a stretch leaves besides its arrays: the calls that moved, the queue's entries, the oldest first, the numbers then, and what
-// stopped it: nothing (0), the end of the walk (1), a dry call (2), or arrays and numbers that are no run's (3).
+// What a stretch leaves besides its arrays: the calls that moved, the queue's entries, the oldest first, the numbers then, and
+// what stopped it: nothing (0), the end of the walk (1), a dry call (2), or arrays and numbers that are no run's (3).
 pub struct Stretch {
     pub made: usize,
-    pub entries: [u8; 32],
+    pub entries: [u8; CAPACITY],
     pub at: Stage,
     pub stop: u8,
 }
 
-// What its calls leave besides the arrays and the long queue: how many moved, the entries removed, the numbers then, and what stopped
-// them.
+// What its calls leave besides the arrays and the long queue: how many moved, the entries removed, the numbers then, and what
+// stopped them.
 struct Ran {
     made: usize,
     taken: usize,
@@ -42,8 +43,14 @@ struct Called {
     byte: u8,
 }
 
+// The places of a run's arrays: a byte is the index of one.
+pub const PLACES: usize = 256;
+
 // The most calls of a stretch.
 pub const CALLS: usize = 1024;
+
+// The places of its queue: each call adds one entry at most to those that it begins with.
+const QUEUE: usize = CALLS + CAPACITY;
 
 // The bound spares callers a fact about the byte that they read.
 fn wide(x: u8) -> usize
@@ -61,7 +68,7 @@ fn work(
     queue: &mut [u8],
     at: Stage,
 ) -> Stage
-    requires { ⌜ Workable (now tops) last bound (now rest) (now queue) at ⌝ }
+    requires { ⌜ FastWorkable (now tops) last bound (now rest) (now queue) at ⌝ }
     ensures { λ r. ⌜ fastOf (now (rest .exit)) (now (queue .exit)) r
         ≡ fastWork (now (tops .entry)) last bound (fastOf (now (rest .entry)) (now (queue .entry)) at) ⌝ }
 {
@@ -113,7 +120,7 @@ fn turned(byte: u8) -> u8
 
 // The digit at a place moves: the byte of the move.
 fn advance(tops: &[u8], left: &mut [u8], bytes: &mut [u8], i: usize) -> u8
-    requires { ⌜ Movable (now tops) (now left) (now bytes) i ⌝ }
+    requires { ⌜ FastMovable (now tops) (now left) (now bytes) i ⌝ }
     ensures { λ r. ⌜ Moves (now (tops .entry)) (now (left .entry)) (now (bytes .entry)) i r (now (left .exit)) (now (bytes .exit)) ⌝ }
 {
     let byte = bytes[i];
@@ -127,8 +134,8 @@ fn advance(tops: &[u8], left: &mut [u8], bytes: &mut [u8], i: usize) -> u8
     byte
 }
 
-// A call after k removals: two work steps, then the removal of the oldest entry. That the call is dry is seen after its steps, which is
-// quicker, since it is rare.
+// A call after k removals: two work steps, then the removal of the oldest entry. That the call is dry is seen after its steps,
+// which is quicker, since it is rare.
 fn call(
     last: usize,
     c: usize,
@@ -140,7 +147,7 @@ fn call(
     bytes: &mut [u8],
     at: Stage,
 ) -> Called
-    requires { ⌜ Callable last c k (now tops) (now rest) (now queue) (now left) (now bytes) at ⌝ }
+    requires { ⌜ FastCallable last c k (now tops) (now rest) (now queue) (now left) (now bytes) at ⌝ }
     ensures { λ r. ⌜ calledAs r (now (rest .exit)) (now (queue .exit)) (now (left .exit)) (now (bytes .exit))
         ≡ fastCall (now (tops .entry)) last c k (fastOf (now (rest .entry)) (now (queue .entry)) at)
         (now (left .entry)) (now (bytes .entry)) ⌝ }
@@ -190,35 +197,35 @@ fn fits(
     if out.len() < done {
         return false;
     }
-    let arrays = (tops.len() == 256)
-        & ((rest.len() == 256) & ((left.len() == 256) & (bytes.len() == 256)));
-    let numbers = ((1 <= last) & (last <= 255))
+    let arrays = (tops.len() == PLACES)
+        & ((rest.len() == PLACES) & ((left.len() == PLACES) & (bytes.len() == PLACES)));
+    let numbers = ((1 <= last) & (last < PLACES))
         & ((at.place <= last)
-            & ((c <= 32) & ((limit <= CALLS) & (at.steps <= 0x8000_0000_0000_0000))));
+            & ((c <= CAPACITY) & ((limit <= CALLS) & (at.steps <= 0x8000_0000_0000_0000))));
     (arrays & numbers) & (limit <= out.len() - done)
 }
 
 // A queue with room for the entries of a stretch.
-fn long_queue(entries: [u8; 32]) -> [u8; 1056]
+fn long_queue(entries: [u8; CAPACITY]) -> [u8; QUEUE]
     ensures { λ r. ⌜ r ≡ filled 1056 0 entries ⌝ }
 {
-    let mut queue = [0u8; 1056];
+    let mut queue = [0u8; QUEUE];
     let mut i = 0;
-    while i < 32 {
+    while i < CAPACITY {
         queue[i] = entries[i];
         i += 1;
     }
     queue
 }
 
-// 32 entries of it.
-fn window(queue: &[u8], from: usize) -> [u8; 32]
+// As many entries of it as a state's queue holds.
+fn window(queue: &[u8], from: usize) -> [u8; CAPACITY]
     requires { ⌜ from + 32 ≤ length (now queue) ⌝ }
     ensures { λ r. ⌜ r ≡ take 32 (drop from (now (queue .entry))) ⌝ }
 {
-    let mut entries = [0u8; 32];
+    let mut entries = [0u8; CAPACITY];
     let mut i = 0;
-    while i < 32 {
+    while i < CAPACITY {
         entries[i] = queue[from + i];
         i += 1;
     }
@@ -285,7 +292,7 @@ pub fn run(
     rest: &mut [u8],
     left: &mut [u8],
     bytes: &mut [u8],
-    entries: [u8; 32],
+    entries: [u8; CAPACITY],
     from: Stage,
     done: usize,
     out: &mut [u8],

@@ -21,7 +21,7 @@ use Rattle.text_theory.specs.Numerals.{decimal-below-ten, decimal-from-ten, dec
 use Rattle.text_theory.specs.declared.Line.{Line}
 use Rattle.text.specs.Stages.{Put}
 
-pub put-none : (at : ℕ) (out : List ℕ) → Put at [] out out at
+put-none : (at : ℕ) (out : List ℕ) → Put at [] out out at
 put-none at out = record { stands = sym (placed-none at out); ends = omega arith; room = refl }
 
 -- one piece after another
@@ -38,7 +38,7 @@ and-then {at} {e} {f} {a} {b} {o} {p} {q} h first second =
     }
 
 -- one byte more
-pub and-byte : {at e : ℕ} {a o p : List ℕ} (x : ℕ) → e < length o → Put at a o p e → Put at (a ++ (x ∷ [])) o (set p e x) (e + 1)
+and-byte : {at e : ℕ} {a o p : List ℕ} (x : ℕ) → e < length o → Put at a o p e → Put at (a ++ (x ∷ [])) o (set p e x) (e + 1)
 and-byte {at} {e} {a} {o} {p} x h first =
     record {
       stands =
@@ -54,7 +54,7 @@ pub same-text : {at e : ℕ} {a b o p : List ℕ} → a ≡ b → Put at a o p e
 same-text {at} {e} {a} {b} {o} h so =
     record { stands = so .stands ∙ ap (λ l. placed at l o) h; ends = so .ends ∙ ap (λ l. at + length l) h; room = so .room }
 
-pub same-end : {at e f : ℕ} {a o p : List ℕ} → f ≡ e → Put at a o p e → Put at a o p f
+same-end : {at e f : ℕ} {a o p : List ℕ} → f ≡ e → Put at a o p e → Put at a o p f
 same-end h so = record { stands = so .stands; ends = h ∙ so .ends; room = so .room }
 
 -- ---- bytes
@@ -129,7 +129,12 @@ notch-put j n word inside short room first second =
     ∙ ap settingText (sym (digits-from j n word inside short)))
     (and-then room first second)
 
--- the pieces of a move behind a rank and its setting
+-- ---- pieces that were put together
+-- the two numbers of the first line
+pub sizes-text : (a b c : List ℕ) → (a ++ (b ++ c)) ++ ascii "\n" ≡ a ++ b ++ c ++ ascii "\n"
+sizes-text a b c = simp append-assoc
+
+-- a move behind a rank and its setting
 pub regroup : (x a b c d e : List ℕ) → x ++ (a ++ b ++ c ++ d ++ e) ≡ x ++ a ++ b ++ c ++ d ++ e
 regroup x a b c d e = simp append-assoc
 

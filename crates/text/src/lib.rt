@@ -1,6 +1,7 @@
 // The lines that the program `walk` writes.
 
 use gray::Counted;
+use gray::DIGITS;
 use gray::Written;
 use text_theory::Line;
 ghost use mathlib.Core.Path.{_≡_};
@@ -46,11 +47,11 @@ fn put_decimal(n: u64, out: &mut [u8], at: usize) -> usize
     ensures { λ r. ⌜ Put at (decimal n) (now (out .entry)) (now (out .exit)) r ⌝ }
 {
     if n < 10 {
-        out[at] = (48 + n) as u8;
+        out[at] = b'0' + n as u8;
         return at + 1;
     }
     let last = put_decimal(n / 10, out, at);
-    out[last] = (48 + n % 10) as u8;
+    out[last] = b'0' + (n % 10) as u8;
     last + 1
 }
 
@@ -77,7 +78,7 @@ fn put_notch(a: u8, first: bool, out: &mut [u8], at: usize) -> usize
 }
 
 // A setting: the first n digits of the word, the last of them first, joined by points.
-fn put_setting(word: [u8; 48], n: usize, out: &mut [u8], at: usize) -> usize
+fn put_setting(word: [u8; DIGITS], n: usize, out: &mut [u8], at: usize) -> usize
     requires { ⌜ (n ≤ 48) × (at + 192 ≤ length (now out)) ⌝ }
     ensures { λ r. ⌜ Put at (settingText (take n word)) (now (out .entry)) (now (out .exit)) r ⌝ }
     ensures { λ r. ⌜ r ≤ at + 192 ⌝ }
@@ -103,14 +104,23 @@ fn put_direction(down: bool, out: &mut [u8], at: usize) -> usize
     }
 }
 
-// A word and a number.
+// Text and a number behind it.
+fn put_counted(text: &[u8], n: u64, out: &mut [u8], at: usize) -> usize
+    requires { ⌜ at + length (now text) + 20 ≤ length (now out) ⌝ }
+    ensures { λ r. ⌜ Put at (now (text .entry) ++ decimal n) (now (out .entry)) (now (out .exit)) r ⌝ }
+    ensures { λ r. ⌜ r ≤ at + length (now (text .entry)) + 20 ⌝ }
+{
+    let behind = put(text, out, at);
+    put_number(n, out, behind)
+}
+
+// A word and a number, as a line.
 fn put_named(name: &[u8], n: u64, out: &mut [u8]) -> usize
     requires { ⌜ (length (now name) ≤ 8) × (256 ≤ length (now out)) ⌝ }
     ensures { λ r. ⌜ Put 0 (now (name .entry) ++ decimal n ++ ascii "\n") (now (out .entry)) (now (out .exit)) r ⌝ }
     ensures { λ r. ⌜ r ≤ 256 ⌝ }
 {
-    let named = put(name, out, 0);
-    let numbered = put_number(n, out, named);
+    let numbered = put_counted(name, n, out, 0);
     put(b"\n", out, numbered)
 }
 
@@ -119,15 +129,13 @@ fn put_sizes(n: u64, size: u64, out: &mut [u8]) -> usize
     ensures { λ r. ⌜ Put 0 (lineText (Line.Sizes n size) []) (now (out .entry)) (now (out .exit)) r ⌝ }
     ensures { λ r. ⌜ r ≤ 256 ⌝ }
 {
-    let a = put(b"sluices ", out, 0);
-    let b = put_number(n, out, a);
-    let c = put(b" settings ", out, b);
-    let d = put_number(size, out, c);
-    put(b"\n", out, d)
+    let a = put_counted(b"sluices ", n, out, 0);
+    let b = put_counted(b" settings ", size, out, a);
+    put(b"\n", out, b)
 }
 
 // A rank and its setting, with which each line of the walk begins.
-fn put_ranked(rank: u64, word: [u8; 48], n: usize, out: &mut [u8]) -> usize
+fn put_ranked(rank: u64, word: [u8; DIGITS], n: usize, out: &mut [u8]) -> usize
     requires { ⌜ (n ≤ 48) × (256 ≤ length (now out)) ⌝ }
     ensures { λ r. ⌜ Put 0 (decimal rank ++ ascii " " ++ settingText (take n word)) (now (out .entry)) (now (out .exit)) r ⌝ }
     ensures { λ r. ⌜ r ≤ 213 ⌝ }
@@ -137,7 +145,7 @@ fn put_ranked(rank: u64, word: [u8; 48], n: usize, out: &mut [u8]) -> usize
     put_setting(word, n, out, b)
 }
 
-fn put_start(word: [u8; 48], n: usize, out: &mut [u8]) -> usize
+fn put_start(word: [u8; DIGITS], n: usize, out: &mut [u8]) -> usize
     requires { ⌜ (n ≤ 48) × (256 ≤ length (now out)) ⌝ }
     ensures { λ r. ⌜ Put 0 (lineText Line.Start (take n word)) (now (out .entry)) (now (out .exit)) r ⌝ }
     ensures { λ r. ⌜ r ≤ 256 ⌝ }
@@ -152,14 +160,20 @@ fn put_move(digit: u8, down: bool, out: &mut [u8], at: usize) -> usize
     ensures { λ r. ⌜ Put at (ascii " " ++ decimal digit ++ ascii " " ++ directionText down ++ ascii "\n") (now (out .entry)) (now (out .exit)) r ⌝ }
     ensures { λ r. ⌜ r ≤ at + 30 ⌝ }
 {
-    let a = put(b" ", out, at);
-    let b = put_number(digit as u64, out, a);
-    let c = put(b" ", out, b);
-    let d = put_direction(down, out, c);
-    put(b"\n", out, d)
+    let a = put_counted(b" ", digit as u64, out, at);
+    let b = put(b" ", out, a);
+    let c = put_direction(down, out, b);
+    put(b"\n", out, c)
 }
 
-fn put_moved(rank: u64, digit: u8, down: bool, word: [u8; 48], n: usize, out: &mut [u8]) -> usize
+fn put_moved(
+    rank: u64,
+    digit: u8,
+    down: bool,
+    word: [u8; DIGITS],
+    n: usize,
+    out: &mut [u8],
+) -> usize
     requires { ⌜ (n ≤ 48) × (256 ≤ length (now out)) ⌝ }
     ensures { λ r. ⌜ Put 0 (lineText (Line.Moved rank digit down) (take n word)) (now (out .entry)) (now (out .exit)) r ⌝ }
     ensures { λ r. ⌜ r ≤ 256 ⌝ }
@@ -168,7 +182,7 @@ fn put_moved(rank: u64, digit: u8, down: bool, word: [u8; 48], n: usize, out: &m
     put_move(digit, down, out, a)
 }
 
-fn put_line(line: Line, word: [u8; 48], n: usize, out: &mut [u8]) -> usize
+fn put_line(line: Line, word: [u8; DIGITS], n: usize, out: &mut [u8]) -> usize
     requires { ⌜ (n ≤ 48) × (256 ≤ length (now out)) ⌝ }
     ensures { λ r. ⌜ Put 0 (lineText line (take n word)) (now (out .entry)) (now (out .exit)) r ⌝ }
     ensures { λ r. ⌜ r ≤ 256 ⌝ }
@@ -199,11 +213,11 @@ pub fn survey_line(radices: &[u8]) -> Line
 }
 
 // A line, at the start of `out`. The word has digit 1 first, as an engine's state has it; of its digits the first n are shown.
-pub fn write_line(line: Line, word: [u8; 48], n: u8, out: &mut [u8]) -> Written
+pub fn write_line(line: Line, word: [u8; DIGITS], n: u8, out: &mut [u8]) -> Written
     ensures { λ r. ⌜ Wrote (lineCall line (take n word)) (writtenAs r) (now (out .entry)) (now (out .exit)) ⌝ }
 {
     let mut text = [0u8; 256];
-    let length = put_line(line, word, up_to(48, n), &mut text);
+    let length = put_line(line, word, up_to(DIGITS, n), &mut text);
     if out.len() < length {
         return Written::Refused(9);
     }

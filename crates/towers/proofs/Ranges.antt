@@ -1,5 +1,5 @@
 -- What a stage of an opening or of the range rule says, over plain lists, numbers and states. Assumes nothing.
-use Prim.Native.Nat.{ℕ, suc, _+_, _-_, _≤_, _<_}
+use Prim.Native.Nat.{ℕ, suc, _+_, _≤_, _<_}
 use native.Mathlib.Omega.{arith}
 use mathlib.Core.Path.{_≡_, refl, sym, ap, ap₂, subst, _∙_}
 use mathlib.Core.Bool.{Bool, true, false, cond, _&&_, _||_, not, and-eq-true-iff, and-true, and-false, Bool·not-not}
@@ -7,78 +7,79 @@ use mathlib.Core.List.{List, _∷_}
 use borrow.Author.Tests.{le-leb, lt-leb, leb-true, eqb-true}
 use lib.Dec.{eqb, ltb, leb}
 use lib.ListN.{length, getD, take, length-reverse}
-use lib.Seq.{length-take-le, getD-take, take-all}
+use lib.Seq.{length-take-le, getD-take}
 use Rattle.gray_theory.specs.Answers.{Answer, given, refused, refusing, isGiven}
 use Rattle.gray_theory.specs.Bools.{impossible}
-use Rattle.gray_theory.specs.Radices.{digits, ofRadices}
+use Rattle.gray_theory.specs.Radices.{digits}
 use Rattle.gray_theory.specs.Locks.{MovingDigits, unlocked, movingDigits, movingInRange}
 use Rattle.gray_theory.specs.Unlocked.{moving-says, says-moving, moving-stored, unlocked-most, unlocked-two}
-use Rattle.gray_theory.specs.Unlocked.{number-at, number-direct}
+use Rattle.gray_theory.specs.Unlocked.{number-direct}
 use Rattle.gray_theory.specs.Words.{even}
-use Rattle.gray_theory.specs.Arrays.{filled, digitArray}
+use Rattle.gray_theory.specs.Arrays.{digitArray}
 use Rattle.gray_theory.specs.Directions.{allBelow, digitsInRange}
 use Rattle.gray_theory.specs.Calls.{sizeCall}
-use Rattle.gray_theory.specs.Engines.{refusedWith}
+use Rattle.gray_theory.specs.DirectedWords.{freshWith, wordInRange}
+use Rattle.gray_theory.specs.WordRanges.{DigitThere, digit-there, array-whole, fresh-from-lent}
+use Rattle.gray_theory.specs.Engines.{refusedWith, openWith}
 use Rattle.gray_theory.specs.DigitRanges.{allBelow-same}
-use Rattle.gray_theory.specs.Filled.{take-filled, length-filled, digit-array}
+use Rattle.gray_theory.specs.Filled.{take-filled, length-filled}
 use Rattle.gray_theory.specs.Radices.{Limits}
 use Rattle.gray_theory.specs.Refusals.{within-limits, limits-pass, accepted, given-unless}
 use Rattle.gray_theory.specs.Refusals.{radices-accepted, survey-refused, survey-accepted}
-use Rattle.gray_theory.specs.Sizes.{radix-two}
-use Rattle.towers_theory.specs.States.{Towers, common, wrongCounts, openCheck, survey, disks}
+use Rattle.towers_theory.specs.States.{Towers, common, wrongCounts, openCheck, survey, disks, Arrays}
 use Rattle.towers_theory.specs.States.{turnInRange, pegsInRange, inRange}
 use Rattle.towers_theory.specs.Choices.{digitOf}
-use Rattle.towers_theory.specs.Calls.{freshWith, fresh, openWith, openOf}
+use Rattle.towers_theory.specs.Calls.{freshOn, fresh, openOf}
 use Rattle.towers_theory.specs.Openings.{openable}
-use Rattle.towers_theory.specs.InRange.{Arrays, DiskDigit, range-says}
+use Rattle.towers_theory.specs.InRange.{range-says}
 use Rattle.towers.specs.Stages.{limitsCheck, surveyFits, lastRadix, plays, DigitAt}
 use Rattle.towers.proofs.Plays.{playableCounts, counts-played, Leads, last-leads}
 
 -- ---- the first part of the range rule
 module _ (s : Towers) where
-  pub digits-over : 48 < s .n → false ≡ surveyFits s
+  pub digits-over : 48 < s .directed .n → false ≡ surveyFits s
   unfolding surveyFits
-  digits-over h = sym (rw (lt-leb (s .n) 48 h))
+  digits-over h = sym (rw (lt-leb (s .directed .n) 48 h))
 
 -- the code counts the digits as a wide number, and looks at the first k places of its array
-module _ (s : Towers) (k : ℕ) (wide : k ≡ s .n) where
-  same-survey : take k (s .radices) ≡ survey s
-  same-survey = ap (λ j. take j (s .radices)) wide
+module _ (s : Towers) (k : ℕ) (wide : k ≡ s .directed .n) where
+  same-survey : take k (s .directed .radices) ≡ survey s
+  same-survey = ap (λ j. take j (s .directed .radices)) wide
 
-  pub radices-refused : (number : ℕ) → sizeCall (take k (s .radices)) ≡ refused number → false ≡ surveyFits s
+  pub radices-refused : (number : ℕ) → sizeCall (take k (s .directed .radices)) ≡ refused number → false ≡ surveyFits s
   unfolding surveyFits
   radices-refused number e =
-      let right = movingInRange (survey s) (s .moving) in
+      let right = movingInRange (survey s) (s .directed .moving) in
       let fails : isGiven (limitsCheck (survey s)) ≡ false =
       survey-refused (survey s) (given tt) number (ap sizeCall (sym same-survey) ∙ e) in
-      sym (ap (λ b. leb (s .n) 48 && b && right) fails ∙ ap (λ b. b && right) (and-false (leb (s .n) 48)))
+      sym (ap (λ b. leb (s .directed .n) 48 && b && right) fails ∙ ap (λ b. b && right) (and-false (leb (s .directed .n) 48)))
 
   pub moving-decides : (total : ℕ) (ok : Bool)
-      → s .n ≤ 48
-      → sizeCall (take k (s .radices)) ≡ given total
-      → ok ≡ movingInRange (survey s) (s .moving)
+      → s .directed .n ≤ 48
+      → sizeCall (take k (s .directed .radices)) ≡ given total
+      → ok ≡ movingInRange (survey s) (s .directed .moving)
       → ok ≡ surveyFits s
   unfolding surveyFits
   moving-decides total ok most accept tested =
       let passes : isGiven (limitsCheck (survey s)) ≡ true =
       ap isGiven (survey-accepted (survey s) (given tt) total (ap sizeCall (sym same-survey) ∙ accept)) in
       tested
-      ∙ sym (ap₂ (λ a b. a && b && movingInRange (survey s) (s .moving)) (le-leb (s .n) 48 most) passes)
+      ∙ sym (ap₂ (λ a b. a && b && movingInRange (survey s) (s .directed .moving)) (le-leb (s .directed .n) 48 most) passes)
 
 -- what it says
 pub record Fits (s : Towers) : Type 0 where
-  pub most : s .n ≤ 48
+  pub most : s .directed .n ≤ 48
   pub limits : Limits (survey s)
-  pub moving : movingInRange (survey s) (s .moving) ≡ true
+  pub moving : movingInRange (survey s) (s .directed .moving) ≡ true
 
 pub fits-says : (s : Towers) → surveyFits s ≡ true → Fits s
 unfolding surveyFits
 fits-says s e =
-    let most = leb (s .n) 48 in
+    let most = leb (s .directed .n) 48 in
     let limits = isGiven (limitsCheck (survey s)) in
-    let (two, m) = and-eq-true-iff (most && limits) (movingInRange (survey s) (s .moving)) .0 e in
+    let (two, m) = and-eq-true-iff (most && limits) (movingInRange (survey s) (s .directed .moving)) .0 e in
     let (one, l) = and-eq-true-iff most limits .0 two in
-    record { most = leb-true (s .n) 48 one; limits = by (limitsCheck (survey s)) refl l; moving = m }
+    record { most = leb-true (s .directed .n) 48 one; limits = by (limitsCheck (survey s)) refl l; moving = m }
   where
     by : (a : Answer Unit) → limitsCheck (survey s) ≡ a → isGiven a ≡ true → Limits (survey s)
     by (refused k) f t = impossible (cc)
@@ -88,22 +89,22 @@ pub says-fits : (s : Towers) → Fits s → surveyFits s ≡ true
 unfolding surveyFits
 says-fits s f =
     let passes : isGiven (limitsCheck (survey s)) ≡ true = ap isGiven (limits-pass (survey s) (given tt) (f .limits)) in
-    ap₂ (λ a b. a && b && movingInRange (survey s) (s .moving)) (le-leb (s .n) 48 (f .most)) passes ∙ f .moving
+    ap₂ (λ a b. a && b && movingInRange (survey s) (s .directed .moving)) (le-leb (s .directed .n) 48 (f .most)) passes ∙ f .moving
 
 module _ (s : Towers) (long : Arrays s) (f : Fits s) where
-  pub disk-count : s .moving .count ≡ length (disks s)
-  disk-count = moving-says (survey s) (s .moving) (f .moving) .count
+  pub disk-count : s .directed .moving .count ≡ length (disks s)
+  disk-count = moving-says (survey s) (s .directed .moving) (f .moving) .count
 
-  room : s .n ≤ length (s .radices)
-  room = let most = f .most in let all = long .radices in omega arith
+  room : s .directed .n ≤ length (s .directed .radices)
+  room = let most = f .most in let all = long .directed .radices in omega arith
 
-  pub survey-count : length (survey s) ≡ s .n
-  survey-count = length-take-le (s .n) (s .radices) room
+  survey-count : length (survey s) ≡ s .directed .n
+  survey-count = length-take-le (s .directed .n) (s .directed .radices) room
 
-  held : length (survey s) ≤ length (s .moving .digits)
-  held = let most = f .most in let all = long .moving in let n = survey-count in omega arith
+  held : length (survey s) ≤ length (s .directed .moving .digits)
+  held = let most = f .most in let all = long .directed .moving in let n = survey-count in omega arith
 
-  pub count-most : s .moving .count ≤ 48
+  pub count-most : s .directed .moving .count ≤ 48
   count-most =
       let n = survey-count in
       let few = unlocked-most (survey s) in
@@ -111,52 +112,50 @@ module _ (s : Towers) (long : Arrays s) (f : Fits s) where
       let most = f .most in
       omega arith
 
-  pub digit-of : (i : ℕ) → i < s .moving .count → DiskDigit s i
-  digit-of i h =
-      let (o, number, inside, radix) = number-at (s .radices) (s .n) (s .moving) room held (f .limits .one) (f .moving) i h in
-      let many = disk-count in
-      let least = radix-two (disks s) i (unlocked-two (survey s)) (omega arith) in
-      record { index = o; number = number; within = inside; radix = radix; two = omega arith }
+  pub digit-of : (i : ℕ) → i < s .directed .moving .count → DigitThere (s .directed) i
+  digit-of =
+      digit-there (s .directed) (long .directed .radices) (f .most) (f .limits .one)
+      (moving-says (survey s) (s .directed .moving) (f .moving))
 
   -- the place of its number among those that move
-  pub digit-at : (i : ℕ) → i < s .moving .count → DigitAt (eqb (s .moving .count) (s .n)) (s .moving .digits) i
+  pub digit-at : (i : ℕ) → i < s .directed .moving .count → DigitAt (eqb (s .directed .moving .count) (s .directed .n)) (s .directed .moving .digits) i
   digit-at i h =
       let most = count-most in
-      let all = long .moving in
+      let all = long .directed .moving in
       let is = digit-of i h .number in
       record {
         within = omega arith;
         from-one = omega arith;
         direct = λ free.
-            let same = eqb-true (s .moving .count) (s .n) free in
-            number-direct (s .radices) (s .n) (s .moving) room held (f .limits .one) (f .moving) same i (omega arith);
+            let same = eqb-true (s .directed .moving .count) (s .directed .n) free in
+            number-direct (s .directed .radices) (s .directed .n) (s .directed .moving) room held (f .limits .one) (f .moving) same i (omega arith);
       }
 
   -- the radix of the last disk
-  pub last-none : s .moving .count ≡ 0 → 1 ≡ lastRadix (disks s)
+  pub last-none : s .directed .moving .count ≡ 0 → 1 ≡ lastRadix (disks s)
   last-none none =
       let z : length (disks s) ≡ 0 = sym disk-count ∙ none in
       sym (ap (λ k. getD (1 ∷ disks s) k 0) z)
 
-  pub last-at : (at i : ℕ) → suc i ≡ s .moving .count → at + 1 ≡ digitOf s i → getD (s .radices) at 0 ≡ lastRadix (disks s)
+  pub last-at : (at i : ℕ) → suc i ≡ s .directed .moving .count → at + 1 ≡ digitOf s i → getD (s .directed .radices) at 0 ≡ lastRadix (disks s)
   last-at at i last named =
       let d = digit-of i (omega arith) in
       let is = d .number in
       let here : at ≡ d .index = omega arith in
       let end : suc i ≡ length (disks s) = last ∙ disk-count in
-      ap (λ k. getD (s .radices) k 0) here ∙ d .radix ∙ ap (λ k. getD (1 ∷ disks s) k 0) end
+      ap (λ k. getD (s .directed .radices) k 0) here ∙ d .radix ∙ ap (λ k. getD (1 ∷ disks s) k 0) end
 
   -- ---- the game's test
   module _ (m : ℕ) (told : m ≡ lastRadix (disks s)) where
-    pub game-tested : (played : Bool)
-        → played ≡ allBelow (length (survey s)) (λ i. plays m (getD (s .radices) i 0))
+    game-tested : (played : Bool)
+        → played ≡ allBelow (length (survey s)) (λ i. plays m (getD (s .directed .radices) i 0))
         → played ≡ playableCounts (disks s)
     game-tested played e =
         let n = survey-count in
         e
-        ∙ allBelow-same (length (survey s)) (λ i. plays m (getD (s .radices) i 0))
+        ∙ allBelow-same (length (survey s)) (λ i. plays m (getD (s .directed .radices) i 0))
         (λ i. plays (lastRadix (disks s)) (getD (survey s) i 0))
-        (λ i h. ap₂ plays told (sym (getD-take (s .n) (s .radices) i 0 (omega arith))))
+        (λ i h. ap₂ plays told (sym (getD-take (s .directed .n) (s .directed .radices) i 0 (omega arith))))
         ∙ counts-played (survey s) (f .limits .one)
 
     pub leading : playableCounts (disks s) ≡ true → Leads (disks s) m
@@ -171,8 +170,8 @@ module _ (s : Towers) (long : Arrays s) (f : Fits s) where
 
     -- ---- the rest of the range rule
     module _ (notches played : Bool)
-        (e : notches ≡ digitsInRange (length (survey s)) (s .radices) (s .word) (s .downs))
-        (p : played ≡ allBelow (length (survey s)) (λ i. plays m (getD (s .radices) i 0)))
+        (e : notches ≡ digitsInRange (length (survey s)) (s .directed .radices) (s .directed .word) (s .directed .downs))
+        (p : played ≡ allBelow (length (survey s)) (λ i. plays m (getD (s .directed .radices) i 0)))
       where
         opens : isGiven (openCheck (survey s)) ≡ played
         opens =
@@ -192,12 +191,12 @@ module _ (s : Towers) (long : Arrays s) (f : Fits s) where
             → turnInRange (disks s) (s .turn) ≡ t
             → pegsInRange (disks s) (s .pegs) ≡ q
             → notches && played && (t && q) ≡ inRange s
-        unfolding inRange
+        unfolding inRange wordInRange
         parts t q turn pegs =
-            let n : digitsInRange (s .n) (s .radices) (s .word) (s .downs) ≡ notches =
-            ap (λ k. digitsInRange k (s .radices) (s .word) (s .downs)) (sym survey-count) ∙ sym e in
+            let n : digitsInRange (s .directed .n) (s .directed .radices) (s .directed .word) (s .directed .downs) ≡ notches =
+            ap (λ k. digitsInRange k (s .directed .radices) (s .directed .word) (s .directed .downs)) (sym survey-count) ∙ sym e in
             ordered played notches t q
-            ∙ sym (rw (le-leb (s .n) 48 (f .most), opens, n, f .moving, turn, pegs))
+            ∙ sym (rw (le-leb (s .directed .n) 48 (f .most), opens, n, f .moving, turn, pegs))
 
         -- what is left to test matters only where the game is played
         rest-tested : (rest : Bool)
@@ -231,7 +230,7 @@ module _ (s : Towers) (long : Arrays s) (f : Fits s) where
 
         pub ring-tested : (within : Bool)
             → not (even m) ≡ false
-            → within ≡ allBelow (length (take (s .moving .count) (s .pegs))) (λ i. leb (getD (s .pegs) i 0) m)
+            → within ≡ allBelow (length (take (s .directed .moving .count) (s .pegs))) (λ i. leb (getD (s .pegs) i 0) m)
             → notches && played && (ltb (s .turn) m && within) ≡ inRange s
         ring-tested within ring w =
             rest-tested (ltb (s .turn) m && within)
@@ -239,8 +238,8 @@ module _ (s : Towers) (long : Arrays s) (f : Fits s) where
             let none = leads .odd ∙ ring in
             let most = count-most in
             let room = long .pegs in
-            let many : length (take (s .moving .count) (s .pegs)) ≡ length (disks s) =
-            length-take-le (s .moving .count) (s .pegs) (omega arith) ∙ disk-count in
+            let many : length (take (s .directed .moving .count) (s .pegs)) ≡ length (disks s) =
+            length-take-le (s .directed .moving .count) (s .pegs) (omega arith) ∙ disk-count in
             sym
             (ap (by-game (common (disks s)) (length (disks s))) none
             ∙ ap₂ (λ (c : ℕ) (k : ℕ). by-game c k false) (leads .ring none) (sym many)
@@ -250,7 +249,7 @@ module _ (s : Towers) (long : Arrays s) (f : Fits s) where
 pub ranged-fits : (s : Towers) → inRange s ≡ true → Fits s
 ranged-fits s e =
     let says = range-says s e in
-    record { most = says .most; limits = openable (survey s) (says .opens) .survey; moving = says .moving }
+    record { most = says .word .most; limits = openable (survey s) (says .word .opens) .survey; moving = says .word .moving }
 
 pub survey-wrong : (s : Towers) → surveyFits s ≡ false → false ≡ inRange s
 survey-wrong s e = by (inRange s) refl
@@ -262,49 +261,41 @@ survey-wrong s e = by (inRange s) refl
 -- ---- an opening
 pub opening-refused : (s : Towers) (l : List ℕ) (k : ℕ) → refused k ≡ openCheck (digits l) → refusedWith k s ≡ openOf s l
 unfolding openOf
-opening-refused s l k e = ap (openWith s (digits l)) e
+opening-refused s l k e = ap (openWith s (fresh (digits l))) e
+
+-- what the tests of an opening tell: the state that it would hand back, and whether its counts are played with
+pub record CountsTested (l : List ℕ) (opened : Towers) (ok : Bool) : Type 0 where
+  pub opens : opened ≡ fresh (digits l)
+  pub checks : (wrong : Bool) → not ok ≡ wrong → openCheck (digits l) ≡ refusing 6 wrong (given tt)
 
 -- once the radices are accepted, their array holds all of them
 module _ (l : List ℕ) (total : ℕ) (accept : sizeCall l ≡ given total) (array : List ℕ) (made : array ≡ digitArray l) where
-  whole : array ≡ filled 48 0 (digits l)
-  whole = made ∙ digit-array l (accepted l total accept .most)
+  few : length l ≤ 48
+  few = accepted l total accept .most
 
   digits-limits : Limits (digits l)
   digits-limits =
       let a = accepted l total accept in
       let same = length-reverse l in
       let some = a .some in
-      let most = a .most in
+      let most = few in
       record { some = omega arith; most = omega arith; one = a .one; limit = a .limit }
 
   pub array-room : length l ≤ length array
   array-room =
-      let most = accepted l total accept .most in
+      let most = few in
       let same = length-reverse l in
-      let long : length array ≡ 48 = ap length whole ∙ length-filled 48 0 (digits l) (omega arith) in
+      let long : length array ≡ 48 = ap length (array-whole l few array made) ∙ length-filled 48 0 (digits l) (omega arith) in
       omega arith
-
-  -- the part of it that is lent
-  lent : take 48 (take (length l) array) ≡ digits l
-  lent =
-      let most = accepted l total accept .most in
-      let same = length-reverse l in
-      ap (λ k. take 48 (take k array)) (sym same)
-      ∙ ap (λ a. take 48 (take (length (digits l)) a)) whole
-      ∙ ap (take 48) (take-filled 48 0 (digits l))
-      ∙ take-all 48 (digits l) (omega arith)
 
   -- the fresh state, made of the array and the digits that move
   module _
       (moving : MovingDigits) (told : moving ≡ movingDigits (take 48 (take (length l) array)))
-      (opened : Towers) (is : opened ≡ freshWith array (length l) moving)
+      (opened : Towers) (is : opened ≡ freshOn (freshWith array (length l) moving))
     where
       new : opened ≡ fresh (digits l)
       unfolding fresh
-      new =
-          is
-          ∙ ap₂ (λ a k. freshWith a k moving) whole (sym (length-reverse l))
-          ∙ ap (freshWith (filled 48 0 (digits l)) (length (digits l))) (told ∙ ap movingDigits lent)
+      new = is ∙ ap freshOn (fresh-from-lent l few array made moving told)
 
       own-survey : survey opened ≡ digits l
       unfolding fresh
@@ -313,37 +304,42 @@ module _ (l : List ℕ) (total : ℕ) (accept : sizeCall l ≡ given total) (arr
       fresh-says : Fits opened
       unfolding fresh
       fresh-says =
-          let count : opened .n ≡ length (digits l) = ap (λ t. t .n) new in
+          let count : opened .directed .n ≡ length (digits l) = ap (λ t. t .directed .n) new in
           let most = digits-limits .most in
           record {
             most = omega arith;
             limits = subst Limits (sym own-survey) digits-limits;
-            moving = ap₂ movingInRange own-survey (ap (λ t. t .moving) new)
+            moving = ap₂ movingInRange own-survey (ap (λ t. t .directed .moving) new)
                 ∙ says-moving (digits l) (movingDigits (digits l)) (moving-stored (digits l));
           }
 
       pub fresh-fits : surveyFits opened ≡ true
       fresh-fits = says-fits opened fresh-says
 
+      -- and its counts, tested
       module _
-          (s : Towers) (long : Arrays opened) (m : ℕ) (last : m ≡ lastRadix (disks opened)) (ok : Bool)
-          (tested : ok ≡ allBelow (length (take (opened .n) array)) (λ i. plays m (getD array i 0)))
+          (long : Arrays opened) (m : ℕ) (last : m ≡ lastRadix (disks opened)) (ok : Bool)
+          (tested : ok ≡ allBelow (length (take (opened .directed .n) array)) (λ i. plays m (getD array i 0)))
         where
           counts-passed : (wrong : Bool) → not ok ≡ wrong → openCheck (digits l) ≡ refusing 6 wrong (given tt)
           counts-passed wrong e =
-              let held : array ≡ opened .radices = sym (ap (λ t. t .radices) is) in
+              let held : array ≡ opened .directed .radices = sym (ap (λ t. t .directed .radices) is) in
               let right =
               game-tested opened long fresh-says m last ok
-              (tested ∙ ap (λ a. allBelow (length (take (opened .n) a)) (λ i. plays m (getD a i 0))) held) in
+              (tested ∙ ap (λ a. allBelow (length (take (opened .directed .n) a)) (λ i. plays m (getD a i 0))) held) in
               let same : wrongCounts (digits l) ≡ wrong =
               sym (ap not (right ∙ ap (λ ms. playableCounts (unlocked ms)) own-survey)) ∙ e in
               radices-accepted l total (refusing 6 (wrongCounts (digits l)) (given tt)) accept
               ∙ ap (λ b. refusing 6 b (given tt)) same
 
-          pub counts-refused : not ok ≡ true → refusedWith 6 s ≡ openOf s l
-          counts-refused e = opening-refused s l 6 (sym (counts-passed true e))
+          pub counts-tested : CountsTested l opened ok
+          counts-tested = record { opens = new; checks = counts-passed }
 
-          pub opening-given : not ok ≡ false → record { state = opened; answer = given tt } ≡ openOf s l
-          unfolding openOf
-          opening-given e =
-              ap (λ t. record { state = t; answer = given tt }) new ∙ ap (openWith s (digits l)) (sym (counts-passed false e))
+module _ (s : Towers) (l : List ℕ) (opened : Towers) (ok : Bool) (c : CountsTested l opened ok) where
+  pub counts-refused : not ok ≡ true → refusedWith 6 s ≡ openOf s l
+  counts-refused e = opening-refused s l 6 (sym (c .checks true e))
+
+  pub opening-given : not ok ≡ false → record { state = opened; answer = given tt } ≡ openOf s l
+  unfolding openOf
+  opening-given e =
+      ap (λ t. record { state = t; answer = given tt }) (c .opens) ∙ ap (openWith s (fresh (digits l))) (sym (c .checks false e))

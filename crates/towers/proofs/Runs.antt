@@ -14,10 +14,9 @@ use Rattle.gray_theory.specs.Places.{placed, placed-none, placed-set, length-pl
 use Rattle.gray_theory.specs.RunCalls.{Stop, nothing, end, runFrom}
 use Rattle.gray_theory.specs.RunLaws.{Moved, moved-none, moved-more, all-made, ends-there, run-made-by}
 use Rattle.digit.specs.Advances.{advancedFrom}
-use Rattle.towers_theory.specs.States.{Towers, disks, inRange}
+use Rattle.towers_theory.specs.States.{Towers, disks, inRange, Arrays}
 use Rattle.towers_theory.specs.Choices.{digitOf, chosen}
 use Rattle.towers_theory.specs.Calls.{turnBy, pegAfter, stepOf, runOf}
-use Rattle.towers_theory.specs.InRange.{Arrays}
 use Rattle.towers_theory.specs.Kept.{range-kept, arrays-kept}
 use Rattle.towers.specs.Stages.{found, lastRadix, DigitMoved, stateOf, Playing, Called}
 use Rattle.towers.proofs.Steps.{digit-fits, disk-moved, walk-over, moves-disk}
@@ -29,8 +28,8 @@ unfolding moveByte
 byte-some at true h e = omega arith
 byte-some at false h e = omega arith
 
-module _ (m : ℕ) (s : Towers) (p : Playing m s) (i : ℕ) (choice : found (s .moving .count) i ≡ chosen s) where
-  pub call-ends : s .moving .count ≤ i → Called (stepOf s) 0 s
+module _ (m : ℕ) (s : Towers) (p : Playing m s) (i : ℕ) (choice : found (s .directed .moving .count) i ≡ chosen s) where
+  pub call-ends : s .directed .moving .count ≤ i → Called (stepOf s) 0 s
   call-ends h =
       let over = walk-over s (p .ranged) i choice h in
       record {
@@ -40,14 +39,14 @@ module _ (m : ℕ) (s : Towers) (p : Playing m s) (i : ℕ) (choice : found (s .
       }
 
   -- disk i + 1 moves, whose digit is at an index of the word
-  module _ (h : i < s .moving .count) (at : ℕ) (named : at + 1 ≡ digitOf s i) where
+  module _ (h : i < s .directed .moving .count) (at : ℕ) (named : at + 1 ≡ digitOf s i) where
     moves-by : (byte : ℕ) (word : List ℕ) (downs : List Bool) (pegs : List ℕ) (turn : ℕ)
-        → DigitMoved (s .radices) at (s .word) (s .downs) byte word downs
+        → DigitMoved (s .directed .radices) at (s .directed .word) (s .directed .downs) byte word downs
         → pegs ≡ cond (not (even m)) (s .pegs) (set (s .pegs) i (pegAfter m i (getD (s .pegs) i 0)))
         → turn ≡ turnBy (not (even m)) m (s .turn)
-        → Called (stepOf s) byte (stateOf (s .radices) (s .n) (s .moving .digits) (s .moving .count) word turn downs pegs)
+        → Called (stepOf s) byte (stateOf (s .directed .radices) (s .directed .n) (s .directed .moving .digits) (s .directed .moving .count) word turn downs pegs)
     moves-by byte word downs pegs turn d e f =
-        let to = advancedFrom (getD (s .radices) at 0) (getD (s .word) at 0) (getD (s .downs) at false) in
+        let to = advancedFrom (getD (s .directed .radices) at 0) (getD (s .directed .word) at 0) (getD (s .directed .downs) at false) in
         let goes =
         disk-moved s (p .long) (p .ranged) m (p .told) i h at named to pegs turn refl e f
         ∙ moves-disk s (p .ranged) i choice h in
@@ -55,16 +54,16 @@ module _ (m : ℕ) (s : Towers) (p : Playing m s) (i : ℕ) (choice : found (s .
         rw (d .words, d .turns)
         (record {
           hands = sym (ap (λ (c : Handed Towers Event). c .state) goes);
-          ends = λ z. absurd (byte-some at (getD (s .downs) at false) few (sym (d .says) ∙ z));
+          ends = λ z. absurd (byte-some at (getD (s .directed .downs) at false) few (sym (d .says) ∙ z));
           moves = λ some. (_, sym (ap (λ (c : Handed Towers Event). c .answer) goes), d .says);
         })
 
     -- on three pegs, and on a ring
     pub pair-moves : (byte : ℕ) (word : List ℕ) (downs : List Bool)
         → not (even m) ≡ true
-        → DigitMoved (s .radices) at (s .word) (s .downs) byte word downs
+        → DigitMoved (s .directed .radices) at (s .directed .word) (s .directed .downs) byte word downs
         → Called (stepOf s) byte
-        (stateOf (s .radices) (s .n) (s .moving .digits) (s .moving .count) word (1 - s .turn) downs (s .pegs))
+        (stateOf (s .directed .radices) (s .directed .n) (s .directed .moving .digits) (s .directed .moving .count) word (1 - s .turn) downs (s .pegs))
     pair-moves byte word downs odd d =
         moves-by byte word downs (s .pegs) (1 - s .turn) d
         (sym (ap (λ o. cond o (s .pegs) (set (s .pegs) i (pegAfter m i (getD (s .pegs) i 0)))) odd))
@@ -72,11 +71,11 @@ module _ (m : ℕ) (s : Towers) (p : Playing m s) (i : ℕ) (choice : found (s .
 
     pub ring-moves : (byte : ℕ) (word : List ℕ) (downs : List Bool) (peg turn : ℕ)
         → not (even m) ≡ false
-        → DigitMoved (s .radices) at (s .word) (s .downs) byte word downs
+        → DigitMoved (s .directed .radices) at (s .directed .word) (s .directed .downs) byte word downs
         → peg ≡ pegAfter m i (getD (s .pegs) i 0)
         → turn ≡ turnBy false m (s .turn)
         → Called (stepOf s) byte
-        (stateOf (s .radices) (s .n) (s .moving .digits) (s .moving .count) word turn downs (set (s .pegs) i peg))
+        (stateOf (s .directed .radices) (s .directed .n) (s .directed .moving .digits) (s .directed .moving .count) word turn downs (set (s .pegs) i peg))
     ring-moves byte word downs peg turn ring d e f =
         moves-by byte word downs (set (s .pegs) i peg) turn d
         (ap (set (s .pegs) i) e
@@ -84,7 +83,7 @@ module _ (m : ℕ) (s : Towers) (p : Playing m s) (i : ℕ) (choice : found (s .
         (f ∙ sym (ap (λ o. turnBy o m (s .turn)) ring))
 
 -- ---- the loop: after k calls that moved the state is `here`, and their bytes stand in the output
-pub record Going (m : ℕ) (s : Towers) (t : ℕ) (before : List ℕ) (here : Towers) (k : ℕ) (out : List ℕ) : Type 0 where
+pub record RunSoFar (m : ℕ) (s : Towers) (t : ℕ) (before : List ℕ) (here : Towers) (k : ℕ) (out : List ℕ) : Type 0 where
   pub done : List ℕ
   pub made : Moved stepOf s k done
   pub stands : after stepOf s k ≡ here
@@ -93,7 +92,7 @@ pub record Going (m : ℕ) (s : Towers) (t : ℕ) (before : List ℕ) (here : To
   pub holds : out ≡ placed 0 done before
 
 module _ (m : ℕ) (s : Towers) (p : Playing m s) (t : ℕ) (before : List ℕ) (room : t ≤ length before) where
-  pub begun : Going m s t before s 0 before
+  pub begun : RunSoFar m s t before s 0 before
   unfolding after
   begun = record {
     done = [];
@@ -104,7 +103,7 @@ module _ (m : ℕ) (s : Towers) (p : Playing m s) (t : ℕ) (before : List ℕ) 
     holds = sym (placed-none 0 before);
   }
 
-  module _ (here : Towers) (k : ℕ) (out : List ℕ) (g : Going m s t before here k out) where
+  module _ (here : Towers) (k : ℕ) (out : List ℕ) (g : RunSoFar m s t before here k out) where
     pub as-long : length out ≡ length before
     as-long =
         let n = g .made .count in
@@ -143,7 +142,7 @@ module _ (m : ℕ) (s : Towers) (p : Playing m s) (t : ℕ) (before : List ℕ) 
           ∙ ap (λ (x : Towers). record { state = x; bytes = g .done; stop = end })
           (ap (λ (x : Towers). stepOf x .state) (g .stands) ∙ c .hands ∙ sym e))
 
-      pub again : (byte ≡ 0 → ⊥) → m ≡ lastRadix (disks left) → Going m s t before left (k + 1) (set out k byte)
+      pub again : (byte ≡ 0 → ⊥) → m ≡ lastRadix (disks left) → RunSoFar m s t before left (k + 1) (set out k byte)
       unfolding after
       again some told =
           let n = g .made .count in

@@ -12,18 +12,20 @@ use lib.Seq.{length-take-le, getD-take, set-getD}
 use Rattle.gray_theory.specs.Answers.{given}
 use Rattle.gray_theory.specs.Words.{even}
 use Rattle.gray_theory.specs.Directions.{wordMoved, downsMoved, digitInRange}
+use Rattle.gray_theory.specs.DirectedWords.{digitMoved}
+use Rattle.gray_theory.specs.WordRanges.{DigitThere}
 use Rattle.digit.specs.Advances.{advancedFrom, digit-advanced}
 use Rattle.gray_theory.specs.DigitRanges.{allBelow-each}
 use Rattle.gray_theory.specs.Engines.{moved, ended, refusedWith}
 use Rattle.digit.specs.declared.Directed.{Directed}
-use Rattle.towers_theory.specs.States.{Towers, allOdd, common, survey, disks, inRange}
+use Rattle.towers_theory.specs.States.{Towers, allOdd, common, survey, disks, inRange, Arrays}
 use Rattle.towers_theory.specs.Choices.{sidePeg, digitOf, pegOf, smallest, onPair, sweeping, isTop, elsewhere}
 use Rattle.towers_theory.specs.Choices.{chosenOnPair, chosenOnRing, chosen}
 use Rattle.towers_theory.specs.Calls.{turnBy, turnAfter, pegAfter, pegsAfter, moveOf, moveBy, stepOf}
 use Rattle.towers.specs.Stages.{found, PairDisks, surveyFits, lastRadix, DigitAt, Movable}
 use Rattle.towers_theory.specs.Smallest.{smallest-same, smallest-elsewhere-is-top}
 use Rattle.towers_theory.specs.Openings.{openable}
-use Rattle.towers_theory.specs.InRange.{Arrays, RangeSays, range-says, some-disk, DiskDigit}
+use Rattle.towers_theory.specs.InRange.{Ranged, range-says, some-disk}
 use Rattle.towers.proofs.Plays.{Leads}
 use Rattle.towers.proofs.Ranges.{Fits, says-fits, ranged-fits, disk-count, count-most, digit-of, digit-at, leading}
 
@@ -38,7 +40,7 @@ pegs-stored pegs i true peg = set-getD pegs i 0
 pegs-stored pegs i false peg = refl
 
 module _ (s : Towers) (long : Arrays s) (ranged : inRange s ≡ true) where
-  says : RangeSays s
+  says : Ranged s
   says = range-says s ranged
 
   fits : Fits s
@@ -47,17 +49,17 @@ module _ (s : Towers) (long : Arrays s) (ranged : inRange s ≡ true) where
   pub survey-right : surveyFits s ≡ true
   survey-right = says-fits s fits
 
-  pub count-fits : s .moving .count ≤ 48
+  pub count-fits : s .directed .moving .count ≤ 48
   count-fits = count-most s long fits
 
   -- the place where a disk's number is held
-  pub number-held : (i : ℕ) → i < s .moving .count → DigitAt (eqb (s .moving .count) (s .n)) (s .moving .digits) i
+  pub number-held : (i : ℕ) → i < s .directed .moving .count → DigitAt (eqb (s .directed .moving .count) (s .directed .n)) (s .directed .moving .digits) i
   number-held i h = digit-at s long fits i h
 
   -- m is the radix that tells which game is played
   module _ (m : ℕ) (told : m ≡ lastRadix (disks s)) where
     leads : Leads (disks s) m
-    leads = leading s long fits m told (openable (survey s) (says .opens) .counts)
+    leads = leading s long fits m told (openable (survey s) (says .word .opens) .counts)
 
     pub radix-positive : 0 < m
     radix-positive = leads .positive
@@ -67,11 +69,11 @@ module _ (s : Towers) (long : Arrays s) (ranged : inRange s ≡ true) where
         → allOdd (disks s) ≡ odd
         → (i : ℕ)
         → pegOf s i
-        ≡ cond odd (sidePeg (getD (s .radices) (digitOf s i - 1) 0) (getD (s .word) (digitOf s i - 1) 0)) (getD (s .pegs) i 0)
+        ≡ cond odd (sidePeg (getD (s .directed .radices) (digitOf s i - 1) 0) (getD (s .directed .word) (digitOf s i - 1) 0)) (getD (s .pegs) i 0)
     unfolding pegOf
     peg-by odd e i =
         ap
-        (λ b. cond b (sidePeg (getD (s .radices) (digitOf s i - 1) 0) (getD (s .word) (digitOf s i - 1) 0)) (getD (s .pegs) i 0))
+        (λ b. cond b (sidePeg (getD (s .directed .radices) (digitOf s i - 1) 0) (getD (s .directed .word) (digitOf s i - 1) 0)) (getD (s .pegs) i 0))
         e
 
     chosen-by : (odd : Bool) → allOdd (disks s) ≡ odd → cond odd (chosenOnPair s) (chosenOnRing s) ≡ chosen s
@@ -80,43 +82,43 @@ module _ (s : Towers) (long : Arrays s) (ranged : inRange s ≡ true) where
 
     -- on a ring by whether disk 1 is in its sweep
     abbrev ringChoice : Bool → Option ℕ
-    ringChoice sweep = cond sweep (some 0) (smallest (s .moving .count) (λ i. isTop s i && elsewhere s i))
+    ringChoice sweep = cond sweep (some 0) (smallest (s .directed .moving .count) (λ i. isTop s i && elsewhere s i))
 
     ring-by : allOdd (disks s) ≡ false → ringChoice (sweeping m (s .turn)) ≡ chosen s
     ring-by ring = sym (ap ringChoice (ap (λ n. sweeping n (s .turn)) (leads .ring ring))) ∙ chosen-by false ring
 
     -- there is a disk
-    pub first-disk : not (even m) ≡ false → 0 < s .moving .count
+    pub first-disk : not (even m) ≡ false → 0 < s .directed .moving .count
     first-disk e =
         let some = some-disk (disks s) (leads .odd ∙ e) in
         let many = disk-count s long fits in
         omega arith
 
     -- the code counts the disks as a wide number, and looks at the first k places of its arrays
-    module _ (k : ℕ) (wide : k ≡ s .moving .count) where
+    module _ (k : ℕ) (wide : k ≡ s .directed .moving .count) where
       -- what is found among the first k places, at once or by a test, is found among the disks
       found-among : (l : List ℕ) (r : ℕ) (at-once : Bool) (f g : ℕ → Bool)
           → length l ≡ 48
           → found (length (take k l)) r ≡ cond at-once (some 0) (smallest (length (take k l)) f)
           → ((i : ℕ) → i < k → f i ≡ g i)
-          → found (s .moving .count) r ≡ cond at-once (some 0) (smallest (s .moving .count) g)
+          → found (s .directed .moving .count) r ≡ cond at-once (some 0) (smallest (s .directed .moving .count) g)
       found-among l r at-once f g room e same =
           let most = count-fits in
-          let count : length (take k l) ≡ s .moving .count = length-take-le k l (omega arith) ∙ wide in
+          let count : length (take k l) ≡ s .directed .moving .count = length-take-le k l (omega arith) ∙ wide in
           sym (ap (λ n. found n r) count)
           ∙ e
           ∙ ap (λ n. cond at-once (some 0) (smallest n f)) count
-          ∙ ap (cond at-once (some 0)) (smallest-same (s .moving .count) f g (λ i h. same i (omega arith)))
+          ∙ ap (cond at-once (some 0)) (smallest-same (s .directed .moving .count) f g (λ i h. same i (omega arith)))
 
-      pub pair-disks : PairDisks (s .radices) (s .word) (eqb (s .moving .count) (s .n)) (take k (s .moving .digits))
+      pub pair-disks : PairDisks (s .directed .radices) (s .directed .word) (eqb (s .directed .moving .count) (s .directed .n)) (take k (s .directed .moving .digits))
       pair-disks =
           let most = count-fits in
-          let some = says .most in
-          let part = length-take-le k (s .moving .digits) (omega arith) in
-          let number : (i : ℕ) → i < k → getD (take k (s .moving .digits)) i 0 ≡ digitOf s i =
-          λ i h. getD-take k (s .moving .digits) i 0 h in
+          let some = says .word .most in
+          let part = length-take-le k (s .directed .moving .digits) (omega arith) in
+          let number : (i : ℕ) → i < k → getD (take k (s .directed .moving .digits)) i 0 ≡ digitOf s i =
+          λ i h. getD-take k (s .directed .moving .digits) i 0 h in
           record {
-            long = long .word ∙ sym (long .radices);
+            long = long .directed .word ∙ sym (long .directed .radices);
             number = λ i h.
                 let d = number-held i (omega arith) in
                 let same = number i (omega arith) in
@@ -136,22 +138,22 @@ module _ (s : Towers) (long : Arrays s) (ranged : inRange s ≡ true) where
           }
 
       abbrev pairTest : ℕ → ℕ → Bool
-      pairTest number i = onPair (s .turn) (sidePeg (getD (s .radices) (number - 1) 0) (getD (s .word) (number - 1) 0))
+      pairTest number i = onPair (s .turn) (sidePeg (getD (s .directed .radices) (number - 1) 0) (getD (s .directed .word) (number - 1) 0))
 
       pub chooses-on-pair : (r : ℕ)
           → not (even m) ≡ true
-          → found (length (take k (s .moving .digits))) r
-          ≡ smallest (length (take k (s .moving .digits))) (λ i. pairTest (getD (take k (s .moving .digits)) i 0) i)
-          → found (s .moving .count) r ≡ chosen s
+          → found (length (take k (s .directed .moving .digits))) r
+          ≡ smallest (length (take k (s .directed .moving .digits))) (λ i. pairTest (getD (take k (s .directed .moving .digits)) i 0) i)
+          → found (s .directed .moving .count) r ≡ chosen s
       chooses-on-pair r e f =
           let odd = leads .odd ∙ e in
-          found-among (s .moving .digits) r false
-          (λ i. pairTest (getD (take k (s .moving .digits)) i 0) i)
+          found-among (s .directed .moving .digits) r false
+          (λ i. pairTest (getD (take k (s .directed .moving .digits)) i 0) i)
           (λ i. onPair (s .turn) (pegOf s i))
-          (long .moving)
+          (long .directed .moving)
           f
           (λ i h.
-          ap (λ number. pairTest number i) (getD-take k (s .moving .digits) i 0 h)
+          ap (λ number. pairTest number i) (getD-take k (s .directed .moving .digits) i 0 h)
           ∙ ap (onPair (s .turn)) (sym (peg-by true odd i)))
           ∙ chosen-by true odd
 
@@ -160,7 +162,7 @@ module _ (s : Towers) (long : Arrays s) (ranged : inRange s ≡ true) where
           → found (length (take k (s .pegs))) r
           ≡ cond (sweeping m (s .turn)) (some 0)
           (smallest (length (take k (s .pegs))) (λ i. not (eqb (getD (take k (s .pegs)) i 0) (getD (take k (s .pegs)) 0 0))))
-          → found (s .moving .count) r ≡ chosen s
+          → found (s .directed .moving .count) r ≡ chosen s
       chooses-on-ring r e f =
           let ring = leads .odd ∙ e in
           let one = first-disk e in
@@ -171,7 +173,7 @@ module _ (s : Towers) (long : Arrays s) (ranged : inRange s ≡ true) where
           (long .pegs)
           f
           (λ i below. ap not (ap₂ eqb (getD-take k (s .pegs) i 0 below ∙ sym (peg-by false ring i)) first))
-          ∙ ap (cond (sweeping m (s .turn)) (some 0)) (sym (smallest-elsewhere-is-top (s .moving .count) (pegOf s) (pegOf s 0)))
+          ∙ ap (cond (sweeping m (s .turn)) (some 0)) (sym (smallest-elsewhere-is-top (s .directed .moving .count) (pegOf s) (pegOf s 0)))
           ∙ ring-by ring
 
     -- ---- advance
@@ -182,7 +184,7 @@ module _ (s : Towers) (long : Arrays s) (ranged : inRange s ≡ true) where
         go true e h = rw (sym (leads .odd) ∙ e) h
         go false e h = rw (sym (leads .odd) ∙ e, ← leads .ring e) h
 
-    module _ (i : ℕ) (h : i < s .moving .count) where
+    module _ (i : ℕ) (h : i < s .directed .moving .count) where
       pub peg-within : not (even m) ≡ false → getD (s .pegs) i 0 ≤ m
       peg-within e =
           let many = disk-count s long fits in
@@ -191,7 +193,7 @@ module _ (s : Towers) (long : Arrays s) (ranged : inRange s ≡ true) where
 
       -- the index of the disk's digit, as the code has it
       module _ (at : ℕ) (named : at + 1 ≡ digitOf s i) where
-        here : DiskDigit s i
+        here : DigitThere (s .directed) i
         here = digit-of s long fits i h
 
         at-index : at ≡ here .index
@@ -201,57 +203,60 @@ module _ (s : Towers) (long : Arrays s) (ranged : inRange s ≡ true) where
         digit-fits =
             let is = at-index in
             let inside = here .within in
-            let most = says .most in
+            let most = says .word .most in
             omega arith
 
-        digit-moves : leb 2 (getD (s .radices) at 0)
-            && digitInRange (getD (s .radices) at 0) (getD (s .word) at 0) (getD (s .downs) at false)
+        digit-moves : leb 2 (getD (s .directed .radices) at 0)
+            && digitInRange (getD (s .directed .radices) at 0) (getD (s .directed .word) at 0) (getD (s .directed .downs) at false)
             ≡ true
         digit-moves =
             let j = here .index in
             let ranged-there =
-            allBelow-each (s .n) (λ j. digitInRange (getD (s .radices) j 0) (getD (s .word) j 0) (getD (s .downs) j false))
-            (says .notches)
+            allBelow-each (s .directed .n) (λ j. digitInRange (getD (s .directed .radices) j 0) (getD (s .directed .word) j 0) (getD (s .directed .downs) j false))
+            (says .word .notches)
             j
             (here .within) in
-            rw at-index (ap₂ _&&_ (le-leb 2 (getD (s .radices) j 0) (here .two)) ranged-there)
+            rw at-index (ap₂ _&&_ (le-leb 2 (getD (s .directed .radices) j 0) (here .two)) ranged-there)
 
-        pub movable : Movable (s .radices) at (s .word) (s .downs)
+        pub movable : Movable (s .directed .radices) at (s .directed .word) (s .directed .downs)
         movable =
             let few = digit-fits in
-            let room = long .radices in
-            let word = long .word in
-            let downs = long .downs in
+            let room = long .directed .radices in
+            let word = long .directed .word in
+            let downs = long .directed .downs in
             record { few = few; radix = omega arith; notch = omega arith; direction = omega arith; stands = digit-moves }
 
         pub disk-moved : (to : Directed) (newPegs : List ℕ) (turn : ℕ)
-            → to ≡ advancedFrom (getD (s .radices) at 0) (getD (s .word) at 0) (getD (s .downs) at false)
+            → to ≡ advancedFrom (getD (s .directed .radices) at 0) (getD (s .directed .word) at 0) (getD (s .directed .downs) at false)
             → newPegs ≡ cond (not (even m)) (s .pegs) (set (s .pegs) i (pegAfter m i (getD (s .pegs) i 0)))
             → turn ≡ turnBy (not (even m)) m (s .turn)
             → record {
               state =
                   record {
-                    radices = s .radices;
-                    n = s .n;
-                    moving = s .moving;
-                    word = set (s .word) at (to .digit);
+                    directed =
+                        record {
+                          radices = s .directed .radices;
+                          n = s .directed .n;
+                          moving = s .directed .moving;
+                          word = set (s .directed .word) at (to .digit);
+                          downs = set (s .directed .downs) at (to .down);
+                        };
                     turn = turn;
-                    downs = set (s .downs) at (to .down);
                     pegs = newPegs;
                   };
-              answer = given (moved (record { digit = at + 1; down = getD (s .downs) at false }));
+              answer = given (moved (record { digit = at + 1; down = getD (s .directed .downs) at false }));
             }
             ≡ moveOf s i
-        unfolding moveOf
+        unfolding moveOf digitMoved
         disk-moved to newPegs turn e f g =
             let gone =
             e
-            ∙ digit-advanced (getD (s .radices) at 0) (getD (s .word) at 0) (getD (s .downs) at false)
+            ∙ digit-advanced (getD (s .directed .radices) at 0) (getD (s .directed .word) at 0) (getD (s .directed .downs) at false)
             digit-moves in
-            let word : set (s .word) at (to .digit) ≡ wordMoved (s .word) (s .downs) at =
-            ap (λ t. set (s .word) at (t .digit)) gone in
-            let downs : set (s .downs) at (to .down) ≡ downsMoved (s .radices) (s .word) (s .downs) at =
-            ap (λ t. set (s .downs) at (t .down)) gone in
+            let word : set (s .directed .word) at (to .digit) ≡ wordMoved (s .directed .word) (s .directed .downs) at =
+            ap (λ t. set (s .directed .word) at (t .digit)) gone in
+            let downs : set (s .directed .downs) at (to .down) ≡ downsMoved (s .directed .radices) (s .directed .word) (s .directed .downs) at =
+            ap (λ t. set (s .directed .downs) at (t .down)) gone in
             let pegs : newPegs ≡ pegsAfter s i =
             f
             ∙ ap (λ o. cond o (s .pegs) (set (s .pegs) i (pegAfter m i (getD (s .pegs) i 0)))) (sym (leads .odd))
@@ -272,14 +277,14 @@ module _ (s : Towers) where
   unfolding stepOf
   refused-faulty e = sym (ap (λ b. cond (not b) (refusedWith 7 s) (moveBy s (chosen s))) e)
 
-  module _ (ranged : inRange s ≡ true) (i : ℕ) (choice : found (s .moving .count) i ≡ chosen s) where
-    goes-by : (o : Option ℕ) → found (s .moving .count) i ≡ o → moveBy s o ≡ stepOf s
+  module _ (ranged : inRange s ≡ true) (i : ℕ) (choice : found (s .directed .moving .count) i ≡ chosen s) where
+    goes-by : (o : Option ℕ) → found (s .directed .moving .count) i ≡ o → moveBy s o ≡ stepOf s
     unfolding stepOf
     goes-by o e =
         ap (moveBy s) (sym e ∙ choice) ∙ sym (ap (λ b. cond (not b) (refusedWith 7 s) (moveBy s (chosen s))) ranged)
 
-    pub walk-over : s .moving .count ≤ i → record { state = s; answer = given ended } ≡ stepOf s
-    walk-over h = goes-by none (ap (λ b. cond b (some i) none) (le-ltb i (s .moving .count) h))
+    pub walk-over : s .directed .moving .count ≤ i → record { state = s; answer = given ended } ≡ stepOf s
+    walk-over h = goes-by none (ap (λ b. cond b (some i) none) (le-ltb i (s .directed .moving .count) h))
 
-    pub moves-disk : i < s .moving .count → moveOf s i ≡ stepOf s
-    moves-disk h = goes-by (some i) (ap (λ b. cond b (some i) none) (lt-ltb i (s .moving .count) h))
+    pub moves-disk : i < s .directed .moving .count → moveOf s i ≡ stepOf s
+    moves-disk h = goes-by (some i) (ap (λ b. cond b (some i) none) (lt-ltb i (s .directed .moving .count) h))

@@ -15,8 +15,7 @@ use Rattle.gray_theory.specs.Changes.{Change}
 use Rattle.gray_theory.specs.Directions.{digitInRange}
 use Rattle.gray_theory.specs.Engines.{Event, moved, ended, Handed}
 use Rattle.digit.specs.Advances.{advancedFrom}
-use Rattle.towers_theory.specs.States.{Towers, survey, disks, inRange}
-use Rattle.towers_theory.specs.InRange.{Arrays}
+use Rattle.towers_theory.specs.States.{Towers, survey, disks, inRange, Arrays}
 
 -- an index below n says a disk, any other says that there is none
 abbrev pub found : ℕ → ℕ → Option ℕ
@@ -27,7 +26,7 @@ abbrev pub limitsCheck : List ℕ → Answer Unit
 limitsCheck ms = ofRadices ms (given tt)
 
 unfoldable pub surveyFits : Towers → Bool
-surveyFits s = leb (s .n) 48 && isGiven (limitsCheck (survey s)) && movingInRange (survey s) (s .moving)
+surveyFits s = leb (s .directed .n) 48 && isGiven (limitsCheck (survey s)) && movingInRange (survey s) (s .directed .moving)
 
 -- the radix of the last disk; where there is no disk, 1
 abbrev pub lastRadix : List ℕ → ℕ
@@ -70,12 +69,9 @@ pub record DigitMoved
 -- the state that the arrays and numbers of a run stand for
 abbrev pub stateOf : List ℕ → ℕ → List ℕ → ℕ → List ℕ → ℕ → List Bool → List ℕ → Towers
 stateOf radices n digits count word turn downs pegs = record {
-  radices = radices;
-  n = n;
-  moving = record { digits = digits; count = count };
-  word = word;
+  directed =
+      record { radices = radices; n = n; moving = record { digits = digits; count = count }; word = word; downs = downs };
   turn = turn;
-  downs = downs;
   pegs = pegs;
 }
 

@@ -14,12 +14,9 @@ use Rattle.towers.specs.declared.Ran.{Ran}
 -- the state that a struct holds: its fields, each as it is, and no other
 abbrev pub towersAs : TowersStruct → Towers
 towersAs s = record {
-  radices = s .radices;
-  n = s .n;
-  moving = movingAs (s .moving);
-  word = s .word;
+  directed =
+      record { radices = s .radices; n = s .n; moving = movingAs (s .moving); word = s .word; downs = s .downs };
   turn = s .turn;
-  downs = s .downs;
   pegs = s .pegs;
 }
 

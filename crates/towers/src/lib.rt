@@ -4,6 +4,7 @@
 use digit::Directed;
 use digit::MovingDigits;
 use gray::Counted;
+use gray::DIGITS;
 use gray::Opening;
 use gray::Running;
 use gray::Stepping;
@@ -14,11 +15,12 @@ ghost use Prim.Native.Nat.{_+_, _-_, _≤_, _<_};
 ghost use lib.Dec.{eqb, leb, ltb};
 ghost use lib.ListN.{length, take, getD};
 ghost use Rattle.gray_theory.specs.Directions.{allBelow, digitInRange};
+ghost use Rattle.gray_theory.specs.DirectedWords.{freshWith};
 ghost use Rattle.digit.specs.Advances.{advancedFrom};
 ghost use Rattle.digit.specs.Moving.{movingAs};
 ghost use Rattle.towers_theory.specs.States.{disks, inRange};
 ghost use Rattle.towers_theory.specs.Choices.{sidePeg, onPair, sweeping, smallest, chosen};
-ghost use Rattle.towers_theory.specs.Calls.{freshWith, closedTowers, openOf, turnBy, pegAfter, moveOf, stepOf, runOf};
+ghost use Rattle.towers_theory.specs.Calls.{freshOn, closedTowers, openOf, turnBy, pegAfter, moveOf, stepOf, runOf};
 ghost use Rattle.towers.specs.Structs.{towersAs, openedAs, steppedAs, ranAs};
 ghost use Rattle.towers.specs.Stages.{found, plays, lastRadix, DigitAt, PairDisks, surveyFits};
 ghost use Rattle.towers.specs.Stages.{stateOf, Movable, DigitMoved, Playing, Called};
@@ -28,13 +30,13 @@ ghost use Rattle.towers.specs.Stages.{stateOf, Movable, DigitMoved, Play
 // disk's peg follows from its digit, and the array of pegs plays no part. For even ones the turn counts the moves of disk 1 in
 // its sweep, and each disk's peg is stored.
 pub struct Towers {
-    pub radices: [u8; 48],
+    pub radices: [u8; DIGITS],
     pub n: u8,
-    pub word: [u8; 48],
+    pub word: [u8; DIGITS],
     pub turn: u8,
-    pub downs: [bool; 48],
+    pub downs: [bool; DIGITS],
     pub moving: MovingDigits,
-    pub pegs: [u8; 48],
+    pub pegs: [u8; DIGITS],
 }
 
 pub struct Opened {
@@ -70,18 +72,18 @@ fn wide(x: u8) -> usize
 fn radix_plays(n: u8, number: u8, m: u8, radix: u8) -> bool
     ensures { λ r. ⌜ r ≡ (ltb n number || plays m radix) ⌝ }
 {
-    (n < number) | ((radix < 2) | ((radix == m) | (!(m % 2 == 0) & !(radix % 2 == 0))))
+    (n < number) | ((radix < 2) | ((radix == m) | ((m % 2 != 0) & (radix % 2 != 0))))
 }
 
 // Whether the game is played with n radices. The loop goes over all places, whatever n is, and gathers its tests with no way
 // out in between: three turns on vectors.
-fn radices_play(n: u8, m: u8, radices: [u8; 48]) -> bool
+fn radices_play(n: u8, m: u8, radices: [u8; DIGITS]) -> bool
     ensures { λ r. ⌜ r ≡ allBelow (length (take n radices)) (λ i. plays m (getD radices i 0)) ⌝ }
 {
     let mut number: u8 = 0;
     let mut ok = true;
     let mut i = 0;
-    while i < 48 {
+    while i < DIGITS {
         number += 1;
         ok = ok & radix_plays(n, number, m, radices[i]);
         i += 1;
@@ -97,13 +99,13 @@ fn peg_within(count: u8, number: u8, m: u8, peg: u8) -> bool
 }
 
 // The pegs of all disks, in one loop over all places, as above.
-fn pegs_within(count: u8, m: u8, pegs: [u8; 48]) -> bool
+fn pegs_within(count: u8, m: u8, pegs: [u8; DIGITS]) -> bool
     ensures { λ r. ⌜ r ≡ allBelow (length (take count pegs)) (λ i. leb (getD pegs i 0) m) ⌝ }
 {
     let mut number: u8 = 0;
     let mut ok = true;
     let mut i = 0;
-    while i < 48 {
+    while i < DIGITS {
         number += 1;
         ok = ok & peg_within(count, number, m, pegs[i]);
         i += 1;
@@ -260,7 +262,8 @@ fn play(
 {
     let free = count == n;
     let most = wide(count);
-    if !(m % 2 == 0) {
+    let odd = m % 2 != 0;
+    if odd {
         let i = first_on_pair(radices, word, free, &digits[..most], turn);
         if most <= i {
             return Played {
@@ -291,17 +294,17 @@ fn play(
 
 // The state that opening gives: the word all 0, the directions all up, the left pair's turn or a sweep's start, all disks on
 // peg 0.
-fn fresh(radices: [u8; 48], n: u8, moving: MovingDigits) -> Towers
-    ensures { λ r. ⌜ towersAs r ≡ freshWith radices n (movingAs moving) ⌝ }
+fn fresh(radices: [u8; DIGITS], n: u8, moving: MovingDigits) -> Towers
+    ensures { λ r. ⌜ towersAs r ≡ freshOn (freshWith radices n (movingAs moving)) ⌝ }
 {
     Towers {
         radices: radices,
         n: n,
         moving: moving,
-        word: [0; 48],
+        word: [0; DIGITS],
         turn: 0,
-        downs: [false; 48],
-        pegs: [0; 48],
+        downs: [false; DIGITS],
+        pegs: [0; DIGITS],
     }
 }
 
@@ -311,10 +314,10 @@ impl Towers {
         ensures { λ r. ⌜ towersAs r ≡ closedTowers ⌝ }
     {
         let none = MovingDigits {
-            digits: [0; 48],
+            digits: [0; DIGITS],
             count: 0,
         };
-        fresh([0; 48], 0, none)
+        fresh([0; DIGITS], 0, none)
     }
 
     // Refused: the state that came, and the number. Accepted: the fresh state, whatever came.
@@ -349,7 +352,7 @@ impl Towers {
     fn survey_fits(self) -> bool
         ensures { λ r. ⌜ r ≡ surveyFits (towersAs self) ⌝ }
     {
-        if 48 < self.n {
+        if digit::MOST < self.n {
             return false;
         }
         let n = wide(self.n);
@@ -393,7 +396,7 @@ impl Towers {
         let m = self.last_radix();
         let notches = digit::digits_in_range(self.n, radices, word, downs);
         let played = radices_play(self.n, m, radices);
-        let odd = !(m % 2 == 0);
+        let odd = m % 2 != 0;
         if odd {
             return (notches & played) & (self.turn < 2);
         }
@@ -408,7 +411,8 @@ impl Towers {
         let moving = self.moving;
         let count = wide(moving.count);
         let m = self.last_radix();
-        if !(m % 2 == 0) {
+        let odd = m % 2 != 0;
+        if odd {
             let radices = self.radices;
             let word = self.word;
             let digits = moving.digits;
@@ -452,7 +456,7 @@ impl Towers {
         let mut downs = self.downs;
         let mut pegs = self.pegs;
         let m = self.last_radix();
-        let odd = !(m % 2 == 0);
+        let odd = m % 2 != 0;
         let at = index_at(moving.count == self.n, &digits, i);
         let k = at as u8 + 1;
         let a = word[at];
@@ -541,7 +545,13 @@ impl Towers {
     }
 
     // The state after calls: the survey as it came, and what the calls have left of the rest.
-    fn settled(self, word: [u8; 48], turn: u8, downs: [bool; 48], pegs: [u8; 48]) -> Towers
+    fn settled(
+        self,
+        word: [u8; DIGITS],
+        turn: u8,
+        downs: [bool; DIGITS],
+        pegs: [u8; DIGITS],
+    ) -> Towers
         ensures { λ r. ⌜ towersAs r
             ≡ stateOf (self .radices) (self .n) (self .moving .digits) (self .moving .count) word turn downs pegs ⌝ }
     {

@@ -1,48 +1,34 @@
 -- The disk engine's calls (document 01, "The disk engine"): what each hands back, for every state there is.
 use Prim.Native.Nat.{ℕ, suc, _+_, _-_}
-use mathlib.Core.Bool.{Bool, false, cond, not}
+use mathlib.Core.Bool.{Bool, cond, not}
 use mathlib.Core.List.{List, []}
 use mathlib.Core.Option.{Option, none, some}
 use lib.Dec.{eqb}
-use lib.ListN.{length, getD, set, replicate}
-use Rattle.gray_theory.specs.Answers.{Answer, given, refused}
+use lib.ListN.{getD, set, replicate}
+use Rattle.gray_theory.specs.Answers.{given}
 use Rattle.gray_theory.specs.Radices.{digits}
 use Rattle.gray_theory.specs.Words.{even}
-use Rattle.gray_theory.specs.Arrays.{filled}
-use Rattle.gray_theory.specs.Locks.{MovingDigits, movingDigits}
-use Rattle.gray_theory.specs.Directions.{wordMoved, downsMoved}
-use Rattle.gray_theory.specs.Engines.{Event, moved, ended, Handed, refusedWith}
+use Rattle.gray_theory.specs.DirectedWords.{DirectedWord, freshWord, digitMoved, changeBy}
+use Rattle.gray_theory.specs.Engines.{Event, moved, ended, Handed, refusedWith, openWith}
 use Rattle.gray_theory.specs.RunCalls.{Running, runWith}
 use Rattle.towers_theory.specs.States.{Towers, allOdd, common, openCheck, disks, inRange}
 use Rattle.towers_theory.specs.Choices.{digitOf, sweeping, chosen}
 
 -- ---- opening
--- the fresh state of the n radices in an array: the setting all 0, directions all up, turn 0, all disks on peg 0
-abbrev pub freshWith : List ℕ → ℕ → MovingDigits → Towers
-freshWith radices n moving = record {
-  radices = radices;
-  n = n;
-  moving = moving;
-  word = replicate 48 0;
-  turn = 0;
-  downs = replicate 48 false;
-  pegs = replicate 48 0;
-}
+-- the fresh state on a word: turn 0, all disks on peg 0
+abbrev pub freshOn : DirectedWord → Towers
+freshOn d = record { directed = d; turn = 0; pegs = replicate 48 0 }
 
 unfoldable pub fresh : List ℕ → Towers
-fresh ms = freshWith (filled 48 0 ms) (length ms) (movingDigits ms)
+fresh ms = freshOn (freshWord ms)
 
 -- the state of no survey
 abbrev pub closedTowers : Towers
 closedTowers = fresh []
 
 -- a refused opening hands back the state as it came, an accepted one the fresh state
-abbrev pub openWith : Towers → List ℕ → Answer Unit → Handed Towers Unit
-openWith s ms (given u) = record { state = fresh ms; answer = given u }
-openWith s ms (refused k) = refusedWith k s
-
 unfoldable pub openOf : Towers → List ℕ → Handed Towers Unit
-openOf s radices = openWith s (digits radices) (openCheck (digits radices))
+openOf s radices = openWith s (fresh (digits radices)) (openCheck (digits radices))
 
 -- ---- one call
 -- the turn after a move: for odd counts the other pair's; for even ones a move of disk 1 more, or 0 after the other disk's move
@@ -71,17 +57,8 @@ pegsAfter s i =
 -- disk i + 1 moves, and its digit one notch in its direction, which turns if the digit is then at an end
 unfoldable pub moveOf : Towers → ℕ → Handed Towers Event
 moveOf s i = record {
-  state =
-      record {
-        radices = s .radices;
-        n = s .n;
-        moving = s .moving;
-        word = wordMoved (s .word) (s .downs) (digitOf s i - 1);
-        turn = turnAfter s;
-        downs = downsMoved (s .radices) (s .word) (s .downs) (digitOf s i - 1);
-        pegs = pegsAfter s i;
-      };
-  answer = given (moved (record { digit = digitOf s i; down = getD (s .downs) (digitOf s i - 1) false }));
+  state = record { directed = digitMoved (s .directed) (digitOf s i); turn = turnAfter s; pegs = pegsAfter s i };
+  answer = given (moved (changeBy (s .directed) (digitOf s i)));
 }
 
 -- where no disk can be chosen the walk has ended, and the state stays as it is, turn included

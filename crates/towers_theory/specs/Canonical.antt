@@ -8,22 +8,22 @@ use mathlib.Core.List.{List, [], _∷_}
 use borrow.Author.Tests.{eqb-true, eqb-false, not-true}
 use lib.Dec.{eqb}
 use lib.ListN.{length, getD, replicate, length-replicate}
-use Rattle.gray_theory.specs.Answers.{isGiven}
-use Rattle.gray_theory.specs.Radices.{allFrom}
-use Rattle.gray_theory.specs.Locks.{MovingDigits, unlocked, movingDigits}
-use Rattle.gray_theory.specs.Unlocked.{unlocked-two, unlocked-most, movingDigit, says-moving, moving-stored}
-use Rattle.gray_theory.specs.Words.{even}
+use Rattle.gray_theory.specs.Radices.{size, allFrom}
+use Rattle.gray_theory.specs.Locks.{unlocked, movingDigits}
+use Rattle.gray_theory.specs.Unlocked.{unlocked-two, unlocked-most, movingDigit, moving-stored}
+use Rattle.gray_theory.specs.Words.{even, member}
 use Rattle.gray_theory.specs.Arrays.{filled}
 use Rattle.gray_theory.specs.DigitRanges.{allBelow-each}
 use Rattle.gray_theory.specs.Indexed.{wordAt}
 use Rattle.gray_theory.specs.Members.{length-wordAt}
 use Rattle.gray_theory.specs.Sizes.{radix-two}
-use Rattle.gray_theory.specs.WalkArrays.{wordArray, downArray, take-word-array, word-array-start, down-array-start, arrays-in-range}
+use Rattle.gray_theory.specs.DirectedWords.{DirectedWord}
+use Rattle.gray_theory.specs.WordRanges.{word-says, directedAt, survey-at, member-at, fresh-at, directed-in-range}
 use Rattle.gray_theory.specs.Filled.{take-filled, getD-filled, filled-replicate}
-use Rattle.towers_theory.specs.States.{Towers, allOdd, common, evenAndEqual, allEvenAndEqual, survey, setting, disks, inRange}
+use Rattle.towers_theory.specs.States.{Towers, allOdd, common, evenAndEqual, allEvenAndEqual, openCheck, Openable, setting, disks, inRange}
 use Rattle.towers_theory.specs.Calls.{fresh}
 use Rattle.towers_theory.specs.Choices.{pegOf}
-use Rattle.towers_theory.specs.Openings.{Openable, opens}
+use Rattle.towers_theory.specs.Openings.{opens}
 use Rattle.towers_theory.specs.InRange.{says-range, some-disk}
 use Rattle.towers_theory.specs.Pairs.{sideAt}
 use Rattle.towers_theory.specs.Rings.{pegsAt, length-pegsAt, pegsAt-start, pegsAt-bound}
@@ -76,30 +76,20 @@ abbrev pub storedAt : List ℕ → ℕ → List ℕ
 storedAt ms r = cond (allOdd ms) (replicate (length ms) 0) (pegsAt false (common ms) (length ms) r)
 
 unfoldable pub towersAt : List ℕ → ℕ → Towers
-towersAt ms r = record {
-  radices = filled 48 0 ms;
-  n = length ms;
-  moving = movingDigits ms;
-  word = wordArray ms r;
-  turn = turnAt (unlocked ms) r;
-  downs = downArray ms r;
-  pegs = filled 48 0 (storedAt (unlocked ms) r);
-}
+towersAt ms r = record { directed = directedAt ms r; turn = turnAt (unlocked ms) r; pegs = filled 48 0 (storedAt (unlocked ms) r) }
 
-pub same-towers : {radices : List ℕ} {n : ℕ} {moving : MovingDigits} {word word′ : List ℕ} {turn turn′ : ℕ} {downs downs′ : List Bool} {pegs pegs′ : List ℕ}
-    → word ≡ word′
+pub same-towers : {d d′ : DirectedWord} {turn turn′ : ℕ} {pegs pegs′ : List ℕ}
+    → d ≡ d′
     → turn ≡ turn′
-    → downs ≡ downs′
     → pegs ≡ pegs′
-    → _≡_ {A = Towers} (record { radices = radices; n = n; moving = moving; word = word; turn = turn; downs = downs; pegs = pegs })
-    (record { radices = radices; n = n; moving = moving; word = word′; turn = turn′; downs = downs′; pegs = pegs′ })
-same-towers w t d p = cc
+    → _≡_ {A = Towers} (record { directed = d; turn = turn; pegs = pegs }) (record { directed = d′; turn = turn′; pegs = pegs′ })
+same-towers d t p = cc
 
 -- the peg of the disk at index k at rank r
 unfoldable pub pegAt : List ℕ → ℕ → ℕ → ℕ
 pegAt ms r k = cond (allOdd ms) (sideAt ms r k) (getD (pegsAt false (common ms) (length ms) r) k 0)
 
-pub length-storedAt : (ms : List ℕ) (r : ℕ) → length (storedAt ms r) ≡ length ms
+length-storedAt : (ms : List ℕ) (r : ℕ) → length (storedAt ms r) ≡ length ms
 length-storedAt ms r = go (allOdd ms)
   where
     go : (b : Bool) → length (cond b (replicate (length ms) 0) (pegsAt false (common ms) (length ms) r)) ≡ length ms
@@ -107,16 +97,13 @@ length-storedAt ms r = go (allOdd ms)
     go false = length-pegsAt false (common ms) (length ms) r
 
 module _ (ms : List ℕ) (r : ℕ) where
-  pub survey-at : survey (towersAt ms r) ≡ ms
-  unfolding towersAt
-  survey-at = take-filled 48 0 ms
-
   pub disks-at : disks (towersAt ms r) ≡ unlocked ms
-  disks-at = ap unlocked survey-at
-
-  pub setting-at : setting (towersAt ms r) ≡ wordAt ms r
   unfolding towersAt
-  setting-at = take-word-array ms r
+  disks-at = ap unlocked (survey-at ms r)
+
+  pub setting-at : r < size ms → setting (towersAt ms r) ≡ member ms r
+  unfolding towersAt
+  setting-at = member-at ms r
 
   abbrev ws : List ℕ
   ws = unlocked ms
@@ -160,9 +147,8 @@ pub fresh-is : (ms : List ℕ) → Openable ms → fresh ms ≡ towersAt ms 0
 unfolding towersAt fresh
 fresh-is ms o =
     same-towers
-    (word-array-start ms (o .survey .most))
+    (fresh-at ms (o .survey))
     (turn-start (unlocked ms))
-    (down-array-start ms (o .survey .one) (o .survey .most))
     (let few = unlocked-most ms in
     let most = o .survey .most in
     sym (ap (filled 48 0) (stored-start (unlocked ms)) ∙ filled-replicate 48 0 (length (unlocked ms)) (omega arith)))
@@ -189,10 +175,7 @@ module _ (ms : List ℕ) (o : Openable ms) (r : ℕ) where
   towers-in-range =
       says-range (towersAt ms r)
       (record {
-        most = o .survey .most;
-        opens = rw (survey-at ms r) (ap isGiven (opens o));
-        notches = arrays-in-range ms (o .survey .one) r;
-        moving = rw (survey-at ms r) (says-moving ms (movingDigits ms) (moving-stored ms));
+        word = word-says openCheck (directedAt ms r) (directed-in-range ms openCheck (o .survey) (opens o) r);
         turns = rw (survey-at ms r) (turn-below (unlocked ms) (playable o) r);
         within = rw (survey-at ms r) (pegs-below (unlocked ms) (playable o) r);
       })

@@ -25,12 +25,14 @@ sidePeg m a = cond (eqb a 0) left (cond (eqb a (m - 1)) right middle)
 
 -- the number of the digit of disk i + 1
 abbrev pub digitOf : Towers → ℕ → ℕ
-digitOf s i = getD (s .moving .digits) i 0
+digitOf s i = getD (s .directed .moving .digits) i 0
 
 -- the peg of a disk: for odd counts it follows from the notch, for even ones it is stored
 unfoldable pub pegOf : Towers → ℕ → ℕ
 pegOf s i =
-    cond (allOdd (disks s)) (sidePeg (getD (s .radices) (digitOf s i - 1) 0) (getD (s .word) (digitOf s i - 1) 0)) (getD (s .pegs) i 0)
+    cond (allOdd (disks s))
+    (sidePeg (getD (s .directed .radices) (digitOf s i - 1) 0) (getD (s .directed .word) (digitOf s i - 1) 0))
+    (getD (s .pegs) i 0)
 
 -- ---- the disk chosen
 -- a disk, or else the other one
@@ -61,12 +63,12 @@ elsewhere s i = not (eqb (pegOf s i) (pegOf s 0))
 
 -- odd counts: the smallest disk on the two pegs of the turn
 abbrev pub chosenOnPair : Towers → Option ℕ
-chosenOnPair s = smallest (s .moving .count) (λ i. onPair (s .turn) (pegOf s i))
+chosenOnPair s = smallest (s .directed .moving .count) (λ i. onPair (s .turn) (pegOf s i))
 
 -- even counts: disk 1 in its sweep; after it the smallest top disk on the other pegs
 abbrev pub chosenOnRing : Towers → Option ℕ
 chosenOnRing s =
-    cond (sweeping (common (disks s)) (s .turn)) (some 0) (smallest (s .moving .count) (λ i. isTop s i && elsewhere s i))
+    cond (sweeping (common (disks s)) (s .turn)) (some 0) (smallest (s .directed .moving .count) (λ i. isTop s i && elsewhere s i))
 
 unfoldable pub chosen : Towers → Option ℕ
 chosen s = cond (allOdd (disks s)) (chosenOnPair s) (chosenOnRing s)

@@ -14,18 +14,16 @@ use Rattle.gray_theory.specs.Unlocked.{length-moving}
 use Rattle.gray_theory.specs.Words.{even}
 use Rattle.gray_theory.specs.Indexed.{wordAt}
 use Rattle.gray_theory.specs.Changes.{ruler}
-use Rattle.gray_theory.specs.Sizes.{radix-two}
 use Rattle.gray_theory.specs.Increments.{Increment.no-carry, Increment.carry, increment}
 use Rattle.gray_theory.specs.Rulers.{ruler-no-carry, ruler-carry, ruler-pos}
-use Rattle.towers_theory.specs.States.{allOdd, common, disks}
+use Rattle.towers_theory.specs.States.{allOdd, common, Openable, disks}
 use Rattle.towers_theory.specs.Choices.{left, middle, right, sidePeg, pegOf, smallest, onPair, sweeping, isTop, elsewhere, chosenOnPair, chosenOnRing, chosen}
-use Rattle.towers_theory.specs.Openings.{Openable}
 use Rattle.towers_theory.specs.InRange.{some-disk}
 use Rattle.towers_theory.specs.Stacks.{Stacked}
 use Rattle.towers_theory.specs.Pairs.{sideAt, leftOut, pairs-stacked}
 use Rattle.towers_theory.specs.Rings.{pegsAt, ringAside, rings-stacked}
 use Rattle.towers_theory.specs.Smallest.{smallest-some, smallest-none, smallest-same, smallest-elsewhere-is-top}
-use Rattle.towers_theory.specs.Canonical.{Playable, playable, ring-two, disks-at, Form, Form.pairs, Form.ring, form, towersAt, pegAt, survey-at, peg-at}
+use Rattle.towers_theory.specs.Canonical.{Playable, playable, ring-two, disks-at, Form, Form.pairs, Form.ring, form, towersAt, pegAt, peg-at}
 
 -- the peg that the smaller disks have come to
 abbrev pub aside : List ℕ → ℕ → ℕ
@@ -121,7 +119,7 @@ module _ (ms : List ℕ) (o : Openable ms) (r : ℕ) where
       let odd-at : allOdd (disks s) ≡ true = ap allOdd (disks-at ms r) ∙ e in
       let turn-is : s .turn ≡ r % 2 = rw e in
       let aside-is : aside ws r ≡ leftOut r = rw e in
-      ap (λ b. cond b (smallest (s .moving .count) (λ i. onPair (s .turn) (pegOf s i))) (chosenOnRing s)) odd-at
+      ap (λ b. cond b (smallest (s .directed .moving .count) (λ i. onPair (s .turn) (pegOf s i))) (chosenOnRing s)) odd-at
       ∙ ap (λ (n : ℕ). smallest n (λ i. onPair (s .turn) (pegOf s i))) many
       ∙ smallest-same (length ws) (λ i. onPair (s .turn) (pegOf s i)) (away ws r)
       (λ i h.
@@ -154,7 +152,7 @@ module _ (ms : List ℕ) (o : Openable ms) (r : ℕ) where
       let turn-is : s .turn ≡ r % m = rw e in
       let sweeps : sweeping (common (disks s)) (s .turn) ≡ sweeping m (r % m) =
       ap₂ sweeping (ap common (disks-at ms r)) turn-is in
-      let others = smallest (s .moving .count) (λ i. isTop s i && elsewhere s i) in
+      let others = smallest (s .directed .moving .count) (λ i. isTop s i && elsewhere s i) in
       ap (λ b. cond b (chosenOnPair s) (chosenOnRing s)) odd-at
       ∙ ap (λ b. cond b (some 0) others) sweeps
       ∙ elim (increment m r (omega arith)) [

@@ -1,6 +1,6 @@
 -- What the disk engine promises of the whole run of calls from a state. The theorem that every fresh start keeps it stands in
 -- Walks.
-use Prim.Native.Nat.{ℕ, suc, _-_, _≤_, _<_}
+use Prim.Native.Nat.{ℕ, _-_, _≤_, _<_}
 use mathlib.Core.Path.{_≡_}
 use mathlib.Core.Bool.{Bool, true}
 use mathlib.Core.List.{List}
@@ -34,7 +34,7 @@ pub record Allowed (s : Towers) (j i : ℕ) : Type 0 where
 
 -- the walk starts at the setting of rank 0; calls 1 to N − 1 name changes 1 to N − 1, each with the setting of its rank; call N
 -- and every later one end; every state is in range; and every call that moves a disk keeps to the rules
-pub record WalksTheList (ms : List ℕ) (s : Towers) : Type 0 where
+pub record PlaysTheList (ms : List ℕ) (s : Towers) : Type 0 where
   pub start : setting s ≡ member ms 0
   pub moves : (j : ℕ) → 1 ≤ j → j < size ms → Names stepOf setting ms s j
   pub end : (j : ℕ) → size ms ≤ j → Ends s j
@@ -44,3 +44,7 @@ pub record WalksTheList (ms : List ℕ) (s : Towers) : Type 0 where
       → i < length (moving ms)
       → answer s j ≡ given (moved (record { digit = getD (moving ms) i 0; down = down }))
       → Allowed s j i
+
+-- ---- a state with other pegs
+abbrev pub withPegs : List ℕ → Towers → Towers
+withPegs pegs s = record { directed = s .directed; turn = s .turn; pegs = pegs }

@@ -3,7 +3,7 @@
 use Prim.Native.Nat.{ℕ, suc, _-_, _≤_, _<_}
 use native.Mathlib.Decide.{decLt, ℕ-discrete}
 use native.Mathlib.Omega.{arith}
-use mathlib.Core.Path.{_≡_, refl, sym, ap, _∙_}
+use mathlib.Core.Path.{_≡_, refl, ap, _∙_}
 use mathlib.Core.Bool.{Bool, true, false, cond, _&&_, not}
 use mathlib.Core.List.{List}
 use mathlib.Core.Option.{Option, none, some, Option·some-injective}
@@ -13,14 +13,15 @@ use lib.Seq.{getD-set-same, getD-set-other}
 use Rattle.gray_theory.specs.Words.{even}
 use Rattle.gray_theory.specs.Sizes.{radix-two}
 use Rattle.gray_theory.specs.Unlocked.{unlocked-two, unlocked-most}
-use Rattle.gray_theory.specs.DigitRanges.{digits-move-in-range}
+use Rattle.gray_theory.specs.DirectedWords.{wordInRange, digitMoved}
+use Rattle.gray_theory.specs.WordRanges.{says-word, word-says, ranged-moving, survey-long, move-keeps-range, move-keeps-rooms}
 use Rattle.gray_theory.specs.Engines.{Event, Handed, refusedWith}
-use Rattle.towers_theory.specs.States.{Towers, allOdd, common, survey, disks, inRange}
+use Rattle.towers_theory.specs.States.{Towers, allOdd, common, openCheck, survey, disks, inRange, Arrays}
 use Rattle.towers_theory.specs.Choices.{digitOf, pegOf, smallest, onPair, sweeping, isTop, elsewhere, chosenOnPair, chosenOnRing, chosen}
 use Rattle.towers_theory.specs.Calls.{fresh, closedTowers, turnBy, clockwise, anticlockwise, pegAfter, pegsAfter, moveOf, moveBy, stepOf}
+use Rattle.towers_theory.specs.Game.{withPegs}
 use Rattle.towers_theory.specs.Smallest.{smallest-says}
-use Rattle.towers_theory.specs.Openings.{Openable}
-use Rattle.towers_theory.specs.InRange.{Arrays, RangeSays, range-says, says-range, ranged-moving, some-disk, disk-digit, survey-openable, survey-long}
+use Rattle.towers_theory.specs.InRange.{Ranged, range-says, says-range, some-disk, disk-digit}
 
 -- ---- what a move leaves in range
 turn-kept : (odd : Bool) (m turn : ℕ)
@@ -58,40 +59,37 @@ set-kept l i a m k h new old =
     ]
 
 module _ (s : Towers) (a : Arrays s) (ranged : inRange s ≡ true) where
-  says : RangeSays s
+  says : Ranged s
   says = range-says s ranged
 
-  open-survey : Openable (survey s)
-  open-survey = survey-openable s says
+  long : length (survey s) ≡ s .directed .n
+  long = survey-long openCheck (s .directed) (says .word) (a .directed .radices)
 
-  long : length (survey s) ≡ s .n
-  long = survey-long s says (a .radices)
-
-  many : s .moving .count ≡ length (disks s)
-  many = ranged-moving s says .count
+  many : s .directed .moving .count ≡ length (disks s)
+  many = ranged-moving openCheck (s .directed) (says .word) .count
 
   -- the disk chosen is one of them
   on-ring : (b : Bool) (i : ℕ)
       → allOdd (disks s) ≡ false
-      → cond b (some 0) (smallest (s .moving .count) (λ k. isTop s k && elsewhere s k)) ≡ some i
-      → i < s .moving .count
+      → cond b (some 0) (smallest (s .directed .moving .count) (λ k. isTop s k && elsewhere s k)) ≡ some i
+      → i < s .directed .moving .count
   on-ring true i odd e =
       let z : 0 ≡ i = Option·some-injective 0 i e in let o = some-disk (disks s) odd in let l = many in omega arith
-  on-ring false i odd e = smallest-says (s .moving .count) (λ k. isTop s k && elsewhere s k) i e .within
+  on-ring false i odd e = smallest-says (s .directed .moving .count) (λ k. isTop s k && elsewhere s k) i e .within
 
-  pub chosen-within : (i : ℕ) → chosen s ≡ some i → i < s .moving .count
+  chosen-within : (i : ℕ) → chosen s ≡ some i → i < s .directed .moving .count
   unfolding chosen
   chosen-within i e = go (allOdd (disks s)) refl e
     where
-      go : (b : Bool) → allOdd (disks s) ≡ b → cond b (chosenOnPair s) (chosenOnRing s) ≡ some i → i < s .moving .count
-      go true odd f = smallest-says (s .moving .count) (λ k. onPair (s .turn) (pegOf s k)) i f .within
+      go : (b : Bool) → allOdd (disks s) ≡ b → cond b (chosenOnPair s) (chosenOnRing s) ≡ some i → i < s .directed .moving .count
+      go true odd f = smallest-says (s .directed .moving .count) (λ k. onPair (s .turn) (pegOf s k)) i f .within
       go false odd f = on-ring (sweeping (common (disks s)) (s .turn)) i odd f
 
   common-two : allOdd (disks s) ≡ false → 2 ≤ common (disks s)
   common-two odd = radix-two (disks s) 0 (unlocked-two (survey s)) (some-disk (disks s) odd)
 
   pegs-kept : (i : ℕ)
-      → i < s .moving .count
+      → i < s .directed .moving .count
       → allOdd (disks s) ≡ false
       → (k : ℕ)
       → k < length (disks s)
@@ -100,27 +98,25 @@ module _ (s : Towers) (a : Arrays s) (ranged : inRange s ≡ true) where
       let l = many in
       let n = long in
       let few = unlocked-most (survey s) in
-      let most = says .most in
+      let most = says .word .most in
       let m = common (disks s) in
       let p = getD (s .pegs) i 0 in
       rw e
       (set-kept (s .pegs) i (pegAfter m i p) m k (omega arith) (peg-kept m i p (says .within e i (omega arith))) (says .within e k h))
 
-  move-kept : (i : ℕ) → i < s .moving .count → inRange (moveOf s i .state) ≡ true
-  unfolding moveOf
+  move-kept : (i : ℕ) → i < s .directed .moving .count → inRange (moveOf s i .state) ≡ true
+  unfolding moveOf digitMoved
   move-kept i h =
-      let most = says .most in
-      let d = disk-digit s (a .radices) (says .most) open-survey (ranged-moving s says) i h in
+      let d = disk-digit s says (a .directed .radices) i h in
       let number = d .number in
       let index : digitOf s i - 1 ≡ d .index = omega arith in
+      let inside = d .within in
       says-range (moveOf s i .state)
       (record {
-        most = says .most;
-        opens = says .opens;
-        notches =
-            rw index
-            (digits-move-in-range (s .n) (s .radices) (s .word) (s .downs) (d .index) (d .within) (omega arith) (omega arith) (d .two) (says .notches));
-        moving = says .moving;
+        word =
+            word-says openCheck (digitMoved (s .directed) (digitOf s i))
+            (move-keeps-range openCheck (s .directed) (digitOf s i) (a .directed) (omega arith) (omega arith) (rw index (d .two))
+            (says-word openCheck (s .directed) (says .word)));
         turns = turn-kept (allOdd (disks s)) (common (disks s)) (s .turn) common-two (says .turns);
         within = pegs-kept i h;
       })
@@ -148,21 +144,9 @@ module _ (s : Towers) (a : Arrays s) (ranged : inRange s ≡ true) where
     where
       go : (c : Option ℕ) → Arrays (moveBy s c .state)
       go none = a
-      go (some i) =
-          record { radices = a .radices; moving = a .moving; word = simp length-set (a .word); downs = simp length-set (a .downs); pegs = length-pegs i }
+      go (some i) = record { directed = move-keeps-rooms (s .directed) (digitOf s i) (a .directed); pegs = length-pegs i }
 
 -- for odd radices a call on other pegs does the same, and hands them back as they came
-abbrev pub withPegs : List ℕ → Towers → Towers
-withPegs pegs s = record {
-  radices = s .radices;
-  n = s .n;
-  moving = s .moving;
-  word = s .word;
-  turn = s .turn;
-  downs = s .downs;
-  pegs = pegs;
-}
-
 module _ (s : Towers) (pegs : List ℕ) (e : allOdd (disks s) ≡ true) where
   range-same : inRange (withPegs pegs s) ≡ inRange s
   unfolding inRange
@@ -192,5 +176,5 @@ module _ (s : Towers) (pegs : List ℕ) (e : allOdd (disks s) ≡ true) where
 
 -- a closed game has no survey: every call on it gets 7
 pub closed-gets-7 : stepOf closedTowers ≡ refusedWith 7 closedTowers
-unfolding stepOf inRange fresh
+unfolding stepOf inRange wordInRange fresh
 closed-gets-7 = refl

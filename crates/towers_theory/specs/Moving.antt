@@ -23,14 +23,13 @@ use Rattle.gray_theory.specs.Indexed.{wordAt, downsAt}
 use Rattle.gray_theory.specs.Filled.{getD-filled, set-filled}
 use Rattle.gray_theory.specs.Directions.{movedFrom}
 use Rattle.gray_theory.specs.Turns.{Advances, walk-advances}
-use Rattle.gray_theory.specs.WalkArrays.{word-array-moved, down-array-moved, change-named}
+use Rattle.gray_theory.specs.WordRanges.{survey-at, directed-moves, directed-change}
 use Rattle.gray_theory.specs.Engines.{moved, ended}
-use Rattle.towers_theory.specs.States.{Towers, allOdd, common, survey}
+use Rattle.towers_theory.specs.States.{Towers, allOdd, common, Openable}
 use Rattle.towers_theory.specs.Choices.{digitOf, sidePeg, chosen}
 use Rattle.towers_theory.specs.Calls.{turnAfter, pegAfter, pegsAfter, moveOf, moveBy, stepOf}
-use Rattle.towers_theory.specs.Openings.{Openable}
 use Rattle.towers_theory.specs.Rings.{pegsAt, length-pegsAt, pegsAt-moves}
-use Rattle.towers_theory.specs.Canonical.{Playable, playable, ring-two, Form, Form.pairs, Form.ring, form, turnAt, storedAt, towersAt, pegAt, same-towers, survey-at, towers-in-range}
+use Rattle.towers_theory.specs.Canonical.{Playable, playable, ring-two, Form, Form.pairs, Form.ring, form, turnAt, storedAt, towersAt, pegAt, same-towers, towers-in-range}
 use Rattle.towers_theory.specs.Choosing.{chooses, chooses-none}
 
 -- ---- the disks, with ms their counts
@@ -134,17 +133,14 @@ module _ (ms : List ℕ) (o : Openable ms) (r : ℕ) where
       → moveOf here i ≡ record { state = towersAt ms (suc r); answer = given (moved (change ms (suc r))) }
   unfolding towersAt moveOf
   move-is i k d below =
-      let a = d .digit in
       let number : getD (movingDigits ms .digits) i 0 ≡ suc k = moving-stored ms .digits i (d .disk .within) ∙ d .number in
-      let index : suc k - 1 ≡ k = omega arith in
-      rw (number, index)
+      rw number
       (ap₂ (λ (s : Towers) (c : Change). record { state = s; answer = given (moved c) })
       (same-towers
-      (word-array-moved ms r k a)
+      (directed-moves ms r k (d .digit))
       (turn-moves (form ws (playable o)))
-      (down-array-moved ms r k a)
       (stored-moves i (d .disk) (form ws (playable o))))
-      (sym (change-named ms r k a below)))
+      (directed-change ms r k (d .digit) below))
 
   -- a call goes by the disk chosen
   step-by : (choice : Option ℕ) → chosen here ≡ choice → stepOf here ≡ moveBy here choice

@@ -1,28 +1,29 @@
--- The state of the disk engine and when it is in range (document 01, "The disk engine"). Its arrays have digit 1 first, and room
--- for 48 digits; what they hold past digit n plays no part.
+-- The state of the disk engine and when it is in range (document 01, "The disk engine").
 use Prim.Native.Nat.{ℕ}
-use mathlib.Core.Bool.{Bool, cond, _&&_, _||_, not}
+use mathlib.Core.Path.{_≡_}
+use mathlib.Core.Bool.{Bool, true, cond, _&&_, _||_, not}
 use mathlib.Core.List.{List}
 use lib.Dec.{eqb, ltb, leb}
-use lib.ListN.{length, getD, take}
-use Rattle.gray_theory.specs.Answers.{Answer, given, isGiven, refusing}
-use Rattle.gray_theory.specs.Radices.{ofRadices}
-use Rattle.gray_theory.specs.Locks.{MovingDigits, unlocked, movingInRange}
+use lib.ListN.{length, getD}
+use Rattle.gray_theory.specs.Answers.{Answer, given, refusing}
+use Rattle.gray_theory.specs.Radices.{ofRadices, Limits}
+use Rattle.gray_theory.specs.Locks.{unlocked}
 use Rattle.gray_theory.specs.Words.{even}
-use Rattle.gray_theory.specs.Directions.{allBelow, digitsInRange}
+use Rattle.gray_theory.specs.Directions.{allBelow}
+use Rattle.gray_theory.specs.DirectedWords.{DirectedWord, Rooms, surveyIn, settingIn, movingIn, wordInRange}
 
--- the state as document 01 lists it: the survey (radices and their number n), the setting (word), the turn, the directions (downs:
--- down or not) and the pegs; and, as document 02 adds, the digits that move, in rising order (moving). For odd counts the turn says
--- which pair of pegs is next, 0 for the left one; a disk's peg follows from its notch, and the list of pegs plays no part. For even
--- ones the turn counts the moves of disk 1 in its sweep, and each disk's peg is stored.
+-- the state as document 01 lists it: what both engines keep (survey, setting, directions), the turn and the pegs. For odd counts the
+-- turn says which pair of pegs is next, 0 for the left one; a disk's peg follows from its notch, and the list of pegs plays no part.
+-- For even ones the turn counts the moves of disk 1 in its sweep, and each disk's peg is stored.
 pub record Towers : Type 0 where
-  pub radices : List ℕ
-  pub n : ℕ
-  pub moving : MovingDigits
-  pub word : List ℕ
+  pub directed : DirectedWord
   pub turn : ℕ
-  pub downs : List Bool
   pub pegs : List ℕ
+
+-- the lengths that the arrays of a state have
+pub record Arrays (s : Towers) : Type 0 where
+  pub directed : Rooms (s .directed)
+  pub pegs : length (s .pegs) ≡ 48
 
 -- ---- the survey
 unfoldable pub allOdd : List ℕ → Bool
@@ -47,16 +48,21 @@ wrongCounts ms = not (allOdd (unlocked ms) || allEvenAndEqual (unlocked ms))
 abbrev pub openCheck : List ℕ → Answer Unit
 openCheck ms = ofRadices ms (refusing 6 (wrongCounts ms) (given tt))
 
+-- document 01, "Limits", and refusal 6: what holds of a survey that passes them
+pub record Openable (ms : List ℕ) : Type 0 where
+  pub survey : Limits ms
+  pub counts : (allOdd (unlocked ms) || allEvenAndEqual (unlocked ms)) ≡ true
+
 -- the survey and the setting that a state holds
 abbrev pub survey : Towers → List ℕ
-survey s = take (s .n) (s .radices)
+survey s = surveyIn (s .directed)
 
 abbrev pub setting : Towers → List ℕ
-setting s = take (s .n) (s .word)
+setting s = settingIn (s .directed)
 
 -- there is a disk for each digit that moves, numbered among those: their counts
 abbrev pub disks : Towers → List ℕ
-disks s = unlocked (survey s)
+disks s = movingIn (s .directed)
 
 -- ---- the range
 -- the turn is 0 or 1 for odd counts, 0 to m − 1 for even ones
@@ -68,13 +74,9 @@ abbrev pub pegsInRange : List ℕ → List ℕ → Bool
 pegsInRange ms pegs = allOdd ms || allBelow (length ms) (λ i. leb (getD pegs i 0) (common ms))
 
 -- document 01: the disk engine could be opened on the survey, setting and directions are as in the buffered engine, and turn and
--- pegs lie within their bounds; document 02: the digits that move are those of the survey. (A state has no room for more than 48
--- digits, whatever its n.)
+-- pegs lie within their bounds; document 02: the digits that move are those of the survey
 unfoldable pub inRange : Towers → Bool
 inRange s =
-    leb (s .n) 48
-    && isGiven (openCheck (survey s))
-    && digitsInRange (s .n) (s .radices) (s .word) (s .downs)
-    && movingInRange (survey s) (s .moving)
+    wordInRange openCheck (s .directed)
     && turnInRange (disks s) (s .turn)
     && pegsInRange (disks s) (s .pegs)

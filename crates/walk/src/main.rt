@@ -1,7 +1,9 @@
-// Document 01's program: it reads one line of notch counts, sluice n first, and prints the walk through all settings, a line each.
-// The moves are the buffered engine's. What a line of input says is proved in `reader`, what each line of output holds in `text`.
+// Document 01's program: it reads one line of notch counts, sluice n first, and prints the walk through all settings, a line
+// each. The moves are the buffered engine's. What a line of input says is proved in `reader`, what each line of output holds in
+// `text`.
 
 use ahead::Walk;
+use gray::DIGITS;
 use gray::Opening;
 use gray::Stepping;
 use gray::Written;
@@ -37,11 +39,11 @@ fn read_part(reader: Reader) -> Progress {
     }
 }
 
-// The input up to the newline, to a byte that makes it no line of counts, or to its end. Nothing says that an input ends, so the
-// number of parts is bounded.
+// The input up to the newline, to a byte that makes it no line of counts, or to its end. Nothing says that an input ends, so
+// the number of parts is bounded.
 fn read_line() -> Reader {
     let mut reader = Reader::fresh();
-    let mut parts: u64 = 18446744073709551615;
+    let mut parts = u64::MAX;
     while 0 < parts {
         let progress = read_part(reader);
         reader = progress.reader;
@@ -53,9 +55,9 @@ fn read_line() -> Reader {
     reader
 }
 
-// A line behind the first `used` bytes of the page; where it does not fit those are written first. Gives the bytes that are used
-// then.
-fn add(line: Line, word: [u8; 48], n: u8, page: &mut [u8], used: usize) -> usize
+// A line behind the first `used` bytes of the page; where it does not fit those are written first. Gives the bytes that are
+// used then.
+fn add(line: Line, word: [u8; DIGITS], n: u8, page: &mut [u8], used: usize) -> usize
     requires { ⌜ used ≤ length (now page) ⌝ }
     ensures { λ r. ⌜ Counts r (now (page .exit)) ⌝ }
 {
@@ -127,9 +129,9 @@ fn add_survey(radices: &[u8], page: &mut [u8]) -> usize
 {
     let first = text::survey_line(radices);
     let Line::Sizes(_, total) = first else {
-        return add(first, [0; 48], 0, page, 0);
+        return add(first, [0; DIGITS], 0, page, 0);
     };
-    let sized = add(first, [0; 48], 0, page, 0);
+    let sized = add(first, [0; DIGITS], 0, page, 0);
     add_walk(radices, total, page, sized)
 }
 
@@ -138,7 +140,7 @@ fn add_answer(reader: Reader, page: &mut [u8]) -> usize
 {
     let found = reader.found();
     let Found::Counts(n) = found else {
-        return add(Line::Unread, [0; 48], 0, page, 0);
+        return add(Line::Unread, [0; DIGITS], 0, page, 0);
     };
     let counts = reader.counts;
     add_survey(&counts[..n], page)

@@ -1,4 +1,4 @@
-//! Compares the second implementation with the proved one: `compare [SEED]`. The exit status is 0 only where nothing differs.
+//! Compares the second program with the proved library: `compare [SEED]`. The exit status is 0 only where nothing differs.
 use std::process::ExitCode;
 
 fn main() -> ExitCode {

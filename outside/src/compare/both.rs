@@ -1,7 +1,7 @@
-//! Each call of the library made on both sides, and their answer handed back.
+//! Each call made on both sides, and the library's answer handed back.
 //!
-//! Lent memory stands between guards and comes filled. After the call all of it must be as ours says: guards, the bytes past an
-//! accepted output and each byte after a refusal as they came.
+//! Lent memory stands between guards and comes filled. After the call all of it must be as the second program says: guards, the
+//! bytes past an accepted output and each byte after a refusal as they came.
 use super::Group;
 use crate::capi::{self, Answer};
 use crate::run::Run;
@@ -9,13 +9,13 @@ use crate::second::run::Ran;
 use crate::second::{buffered, disks, log, survey};
 use std::fmt::Debug;
 
-/// Bytes that a writer of ours hands back, or the refusal.
+/// Bytes that a writer of the second program hands back, or the refusal.
 type Bytes<'a> = Result<&'a [u8], u8>;
 
 /// The proved library's answer, for those who know it from another source too.
-pub struct Theirs<A = Answer>(A);
+pub struct Library<A = Answer>(A);
 
-impl<A: PartialEq + Debug> Theirs<A> {
+impl<A: PartialEq + Debug> Library<A> {
     /// One comparison more, with an answer that is known.
     pub fn is(self, g: &mut Group, inputs: impl FnOnce() -> String, expected: A) {
         g.same(inputs, &expected, &self.0);
@@ -36,18 +36,18 @@ fn lend<A: PartialEq + Debug>(
     g: &mut Group,
     inputs: impl FnOnce() -> String,
     room: usize,
-    ours: (A, &[u8]),
+    second: (A, &[u8]),
     call: impl FnOnce(&mut [u8]) -> A,
-) -> Theirs<A> {
-    let (answer, bytes) = ours;
+) -> Library<A> {
+    let (answer, bytes) = second;
     let mut expected = filling(room + 2 * GUARD, g.made);
     let mut memory = expected.clone();
-    let theirs = call(&mut memory[GUARD..GUARD + room]);
+    let library = call(&mut memory[GUARD..GUARD + room]);
     expected[GUARD..GUARD + bytes.len()].copy_from_slice(bytes);
     let wrong = (expected != memory).then(|| first_wrong(&expected, &memory));
-    let theirs = (theirs, wrong);
-    g.same(|| format!("{}, room {room}", inputs()), &(answer, None), &theirs);
-    Theirs(theirs.0)
+    let library = (library, wrong);
+    g.same(|| format!("{}, room {room}", inputs()), &(answer, None), &library);
+    Library(library.0)
 }
 
 /// The first byte that is not as it should be, counted from the start of what was lent.
@@ -62,49 +62,49 @@ fn lend_writer(
     g: &mut Group,
     inputs: impl FnOnce() -> String,
     room: usize,
-    ours: Bytes,
+    second: Bytes,
     call: impl FnOnce(&mut [u8]) -> Answer,
-) -> Theirs {
-    let answer = ours.map(|bytes| bytes.len() as u64);
-    lend(g, inputs, room, (answer, ours.unwrap_or(&[])), call)
+) -> Library {
+    let answer = second.map(|bytes| bytes.len() as u64);
+    lend(g, inputs, room, (answer, second.unwrap_or(&[])), call)
 }
 
-pub fn size(g: &mut Group, counts: &[u8]) -> Theirs {
-    let theirs = capi::size(counts);
-    g.same(|| format!("size of {counts:?}"), &survey::size(counts), &theirs);
-    Theirs(theirs)
+pub fn size(g: &mut Group, counts: &[u8]) -> Library {
+    let library = capi::size(counts);
+    g.same(|| format!("size of {counts:?}"), &survey::size(counts), &library);
+    Library(library)
 }
 
-pub fn rank(g: &mut Group, counts: &[u8], setting: &[u8]) -> Theirs {
-    let theirs = capi::rank(counts, setting);
+pub fn rank(g: &mut Group, counts: &[u8], setting: &[u8]) -> Library {
+    let library = capi::rank(counts, setting);
     g.same(
         || format!("rank of {setting:?} in {counts:?}"),
         &survey::rank(counts, setting),
-        &theirs,
+        &library,
     );
-    Theirs(theirs)
+    Library(library)
 }
 
 /// The setting of a rank held to bytes that are known.
-pub fn word_is(g: &mut Group, counts: &[u8], rank: u64, room: usize, ours: Bytes) -> Theirs {
+pub fn word_is(g: &mut Group, counts: &[u8], rank: u64, room: usize, second: Bytes) -> Library {
     let inputs = || format!("setting of rank {rank} in {counts:?}");
-    lend_writer(g, inputs, room, ours, |out| capi::word(counts, rank, out))
+    lend_writer(g, inputs, room, second, |out| capi::word(counts, rank, out))
 }
 
-pub fn word(g: &mut Group, counts: &[u8], rank: u64, room: usize) -> Theirs {
-    let ours = survey::word(counts, rank, room);
-    word_is(g, counts, rank, room, ours.as_deref().map_err(|&k| k))
+pub fn word(g: &mut Group, counts: &[u8], rank: u64, room: usize) -> Library {
+    let second = survey::word(counts, rank, room);
+    word_is(g, counts, rank, room, second.as_deref().map_err(|&k| k))
 }
 
 /// A run of settings held to bytes that are known.
-pub fn list_is(g: &mut Group, counts: &[u8], from: u64, count: u64, room: usize, ours: Bytes) -> Theirs {
+pub fn list_is(g: &mut Group, counts: &[u8], from: u64, count: u64, room: usize, second: Bytes) -> Library {
     let inputs = || format!("{count} settings from rank {from} in {counts:?}");
-    lend_writer(g, inputs, room, ours, |out| capi::list(counts, from, count, out))
+    lend_writer(g, inputs, room, second, |out| capi::list(counts, from, count, out))
 }
 
-pub fn list(g: &mut Group, counts: &[u8], from: u64, count: u64, room: usize) -> Theirs {
-    let ours = survey::run(counts, from, count, room);
-    list_is(g, counts, from, count, room, ours.as_deref().map_err(|&k| k))
+pub fn list(g: &mut Group, counts: &[u8], from: u64, count: u64, room: usize) -> Library {
+    let second = survey::run(counts, from, count, room);
+    list_is(g, counts, from, count, room, second.as_deref().map_err(|&k| k))
 }
 
 /// The engine of a run, with its capacity where it has one, and with the setting where it does not begin at the start.
@@ -116,7 +116,7 @@ pub enum Engine<'a> {
 }
 
 impl Engine<'_> {
-    /// Our run of at most t moves from the start, or from the setting.
+    /// The second program's run of at most t moves from the start, or from the setting.
     pub fn run(self, counts: &[u8], t: u64, room: usize) -> Ran {
         match self {
             Engine::Buffered(capacity) => buffered::moves(counts, capacity, t, room),
@@ -125,7 +125,7 @@ impl Engine<'_> {
         }
     }
 
-    fn theirs(self, counts: &[u8], t: u64, out: &mut [u8]) -> Run {
+    fn library(self, counts: &[u8], t: u64, out: &mut [u8]) -> Run {
         match self {
             Engine::Buffered(capacity) => capi::moves(counts, capacity, t, out),
             Engine::PickedUp(capacity, setting) => capi::resume_moves(counts, capacity, setting, t, out),
@@ -135,29 +135,29 @@ impl Engine<'_> {
 }
 
 /// A run held to one that is known: how it comes out, and the bytes of its moves.
-pub fn run_is(g: &mut Group, engine: Engine, counts: &[u8], t: u64, room: usize, ours: (Run, &[u8])) -> Theirs<Run> {
+pub fn run_is(g: &mut Group, engine: Engine, counts: &[u8], t: u64, room: usize, second: (Run, &[u8])) -> Library<Run> {
     let inputs = || format!("run of {t} moves of {counts:?}, {engine:?}");
-    lend(g, inputs, room, ours, |out| engine.theirs(counts, t, out))
+    lend(g, inputs, room, second, |out| engine.library(counts, t, out))
 }
 
-pub fn run(g: &mut Group, engine: Engine, counts: &[u8], t: u64, room: usize) -> Theirs<Run> {
+pub fn run(g: &mut Group, engine: Engine, counts: &[u8], t: u64, room: usize) -> Library<Run> {
     let (outcome, bytes) = engine.run(counts, t, room);
     run_is(g, engine, counts, t, room, (outcome, &bytes))
 }
 
 /// A log held to bytes that are known.
-pub fn log_is(g: &mut Group, counts: &[u8], capacity: usize, t: u64, room: usize, ours: Bytes) -> Theirs {
+pub fn log_is(g: &mut Group, counts: &[u8], capacity: usize, t: u64, room: usize, second: Bytes) -> Library {
     let inputs = || format!("log of {t} moves of {counts:?}, capacity {capacity}");
-    lend_writer(g, inputs, room, ours, |out| capi::log_write(counts, capacity, t, out))
+    lend_writer(g, inputs, room, second, |out| capi::log_write(counts, capacity, t, out))
 }
 
-pub fn log_write(g: &mut Group, counts: &[u8], capacity: usize, t: u64, room: usize) -> Theirs {
-    let ours = log::write(counts, capacity, t, room);
-    log_is(g, counts, capacity, t, room, ours.as_deref().map_err(|&k| k))
+pub fn log_write(g: &mut Group, counts: &[u8], capacity: usize, t: u64, room: usize) -> Library {
+    let second = log::write(counts, capacity, t, room);
+    log_is(g, counts, capacity, t, room, second.as_deref().map_err(|&k| k))
 }
 
-pub fn log_read(g: &mut Group, bytes: &[u8]) -> Theirs {
-    let theirs = capi::log_read(bytes);
-    g.same(|| format!("reading of the log {bytes:?}"), &log::read(bytes), &theirs);
-    Theirs(theirs)
+pub fn log_read(g: &mut Group, bytes: &[u8]) -> Library {
+    let library = capi::log_read(bytes);
+    g.same(|| format!("reading of the log {bytes:?}"), &log::read(bytes), &library);
+    Library(library)
 }

@@ -58,11 +58,11 @@ pub fn finish(g: &mut Group, script: Script) {
     };
     let mut lines = printed.lines();
     for record in script.records() {
-        let theirs: Vec<String> = lines.by_ref().take(record.expected.len()).map(String::from).collect();
+        let library: Vec<String> = lines.by_ref().take(record.expected.len()).map(String::from).collect();
         g.same(
             || format!("cases, the last line of\n{}", script.case_of(record)),
             &record.expected,
-            &theirs,
+            &library,
         );
     }
     g.same(|| "cases, lines after the last".into(), &None, &lines.next());

@@ -1,4 +1,5 @@
-//! Made-up states with one change: mostly a fault, by which they are out of range, now and then none. Which it is, ours says.
+//! Made-up states with one change: mostly a fault, by which they are out of range, now and then none. Which it is, the second
+//! program says.
 use crate::chance::Chance;
 use crate::second::buffered::{Walk, MOST_CAPACITY};
 use crate::second::disks::Disks;

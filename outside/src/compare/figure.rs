@@ -74,7 +74,7 @@ fn figure(g: &mut Group, counts: &[u8], capacity: usize, figure: &[Vec<u8>]) {
     let size = figure.len() as u64;
     both::size(g, counts).is(g, || format!("length of the figure for {counts:?}"), Ok(size));
     g.same(
-        || format!("figure and our list for {counts:?}"),
+        || format!("figure and the second program's list for {counts:?}"),
         figure,
         &survey::list(counts)[..],
     );

@@ -1,7 +1,7 @@
-//! Comparisons of the second implementation with the proved one, in groups.
+//! Comparisons of the second program with the proved library, in groups.
 //!
-//! "Ours" is the second implementation (or a number that document 01 or 02 names), "theirs" the proved library or program. Each
-//! group has surveys with locked sluices too.
+//! "Second" is what the second program says (or a number that document 01 or 02 names), "library" what the proved library, or a
+//! program made of it, says. Each group has surveys with locked sluices too.
 mod both;
 mod bounds;
 mod cases;
@@ -37,14 +37,14 @@ pub struct Group {
 
 impl Group {
     /// One comparison. `inputs` is made only where there is a difference to tell of.
-    fn same<T: PartialEq + Debug + ?Sized>(&mut self, inputs: impl FnOnce() -> String, ours: &T, theirs: &T) {
+    fn same<T: PartialEq + Debug + ?Sized>(&mut self, inputs: impl FnOnce() -> String, second: &T, library: &T) {
         self.made += 1;
-        if ours == theirs {
+        if second == library {
             return;
         }
         self.differ += 1;
         if self.differ <= SHOWN {
-            println!("differs: {}\n  ours:   {ours:?}\n  theirs: {theirs:?}", inputs());
+            println!("differs: {}\n  second:  {second:?}\n  library: {library:?}", inputs());
         }
     }
 }

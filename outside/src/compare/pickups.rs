@@ -9,7 +9,8 @@ use crate::run::Run;
 use crate::second::buffered::{Walk, MOST_CAPACITY};
 use crate::second::survey;
 
-/// Up to so many settings, a walk is picked up at each of them with each of these capacities, and ours makes each run.
+/// Up to so many settings, a walk is picked up at each of them with each of these capacities, and the second program makes each
+/// run.
 const MOST_AT_ALL: u64 = 48;
 const CAPACITIES: [usize; 8] = [1, 2, 3, 4, 5, 9, 31, 32];
 /// Moves of a run on a large survey: more than the largest buffer holds, and the longest carry takes.
@@ -40,14 +41,14 @@ pub fn compare(g: &mut Group, chance: &mut Chance) {
     }
 }
 
-/// Setting and directions that ours picks up are those of our walk from the start, at each rank.
+/// Setting and directions that the second program picks up are those of its own walk from the start, at each rank.
 fn sluices_at_all(g: &mut Group, known: &Known) {
     let counts = &known.counts;
     let capacity = enough(counts);
     let mut start = Walk::open(counts, capacity).expect("the survey can be opened");
     for setting in &known.list {
         let picked_up = Walk::resume(counts, capacity, setting).map(|walk| (walk.sluices, walk.moves));
-        let name = || format!("our sluices at {setting:?} of {counts:?}");
+        let name = || format!("the second program's sluices at {setting:?} of {counts:?}");
         g.same(name, &Ok((start.sluices.clone(), start.moves)), &picked_up);
         start.step();
     }
@@ -91,11 +92,12 @@ fn runs_from(g: &mut Group, chance: &mut Chance, counts: &[u8], engine: Engine, 
     let whole = (Run::Ended(last), left);
     is_of_list(g, counts, engine, &longest, whole);
     for t in [0, chance.below(last + 1), last, last + 1, last + 2] {
-        longest.theirs(g, chance, t);
+        longest.library(g, chance, t);
     }
 }
 
-/// Our run is this one, which makes the list's moves, or with too small a buffer the first of them and then runs dry.
+/// The second program's run is this one, which makes the list's moves, or with too small a buffer the first of them and then
+/// runs dry.
 fn is_of_list(g: &mut Group, counts: &[u8], engine: Engine, longest: &Longest, whole: (Run, &[u8])) {
     let made = longest.moves.len() as u64;
     let may_be_dry = matches!(engine, Engine::PickedUp(capacity, _) if capacity < enough(counts));
@@ -104,7 +106,7 @@ fn is_of_list(g: &mut Group, counts: &[u8], engine: Engine, longest: &Longest, w
     } else {
         whole
     };
-    let name = || format!("our run of {counts:?}, {engine:?}");
+    let name = || format!("the second program's run of {counts:?}, {engine:?}");
     g.same(name, &expected, &(longest.outcome, &longest.moves[..]));
 }
 
@@ -168,7 +170,7 @@ fn near_carries(g: &mut Group, chance: &mut Chance, counts: &[u8]) {
             let longest = Longest::of(engine, counts, LONG);
             is_of_list(g, counts, engine, &longest, (outcome, &moves));
             for t in [0, 1, chance.below(LONG), LONG] {
-                longest.theirs(g, chance, t);
+                longest.library(g, chance, t);
             }
         }
     }
@@ -229,10 +231,10 @@ fn dry_runs(g: &mut Group) {
 fn one_move(g: &mut Group, name: &str, counts: &[u8], capacity: usize, setting: &[u8], refused: Option<u8>) {
     let engine = Engine::PickedUp(capacity, setting);
     for (t, room) in [(0, 0), (1, 1), (1, 0), (2, 9)] {
-        let theirs = both::run(g, engine, counts, t, room);
+        let library = both::run(g, engine, counts, t, room);
         match refused {
-            Some(number) => theirs.is(g, || name.into(), Run::Refused(number)),
-            None if (room as u64) < t => theirs.is(g, || name.into(), Run::Refused(9)),
+            Some(number) => library.is(g, || name.into(), Run::Refused(number)),
+            None if (room as u64) < t => library.is(g, || name.into(), Run::Refused(9)),
             None => (),
         }
     }

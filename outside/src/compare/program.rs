@@ -25,12 +25,12 @@ pub fn compare(g: &mut Group, chance: &mut Chance) {
 
 /// The whole output of a program for an input.
 fn print(g: &mut Group, program: &Path, input: &[u8]) {
-    let theirs = process::output(program, input).map(|bytes| String::from_utf8_lossy(&bytes).into_owned());
+    let library = process::output(program, input).map(|bytes| String::from_utf8_lossy(&bytes).into_owned());
     let start = &input[..input.len().min(200)];
     g.same(
         || format!("walk on {} bytes, {:?}", input.len(), start.escape_ascii().to_string()),
         &Ok(text::output(input)),
-        &theirs,
+        &library,
     );
 }
 

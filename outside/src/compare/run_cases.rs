@@ -1,5 +1,5 @@
 //! Runs of moves from states of both engines, fresh and made up, through the program `cases`: how they come out, each lent byte
-//! and the state that they hand back. Ours makes single calls.
+//! and the state that they hand back. The second program makes single calls.
 use super::cases::{self, add_all, often_the_ends, Case};
 use super::ranges::{self, Call};
 use super::script::{Script, MOST_LENT};

@@ -66,8 +66,8 @@ pub fn enough(counts: &[u8]) -> usize {
     survey::moving(counts).len().div_ceil(2).max(1)
 }
 
-/// Our longest run of a survey, from which every shorter one follows: it makes the first of these moves, or all of them and
-/// stops as this does.
+/// The second program's longest run of a survey, from which every shorter one follows: it makes the first of these moves, or
+/// all of them and stops as this does.
 pub struct Longest<'a> {
     engine: Engine<'a>,
     counts: &'a [u8],
@@ -105,22 +105,22 @@ impl<'a> Longest<'a> {
     /// Whether its moves are the list's, and all of them where it ends.
     fn is_of_list(&self, g: &mut Group) {
         let (counts, made) = (self.counts, self.moves.len() as u64);
-        let name = || format!("our run of {made} moves of {counts:?}, {:?}", self.engine);
+        let name = || format!("the second program's run of {made} moves of {counts:?}, {:?}", self.engine);
         g.same(name, &survey::move_bytes(counts, made), &self.moves);
         if let Run::Ended(made) = self.outcome {
             g.same(name, &survey::size(counts), &Ok(made + 1));
         }
     }
 
-    /// Our own run of t moves is what is said of it here.
-    pub fn ours(&self, g: &mut Group, t: u64) {
-        let name = || format!("our run of {t} moves of {:?}, {:?}", self.counts, self.engine);
+    /// The second program's own run of t moves is what is said of it here.
+    pub fn second(&self, g: &mut Group, t: u64) {
+        let name = || format!("the second program's run of {t} moves of {:?}, {:?}", self.counts, self.engine);
         let (outcome, moves) = self.first(t);
         g.same(name, &(outcome, moves.to_vec()), &self.engine.run(self.counts, t, t as usize));
     }
 
     /// The run of t moves with just enough room, one byte too little and more.
-    pub fn theirs(&self, g: &mut Group, chance: &mut Chance, t: u64) {
+    pub fn library(&self, g: &mut Group, chance: &mut Chance, t: u64) {
         let (room, more) = (t as usize, chance.between(1, 9));
         both::run_is(g, self.engine, self.counts, t, room, self.first(t));
         both::run_is(g, self.engine, self.counts, t, room + more, self.first(t));
@@ -147,7 +147,7 @@ fn lengths_of_parts(g: &mut Group, chance: &mut Chance, engine: Engine, counts: 
     let parts = (1..=LONG / PART).map(|k| k * PART);
     for middle in parts.chain([made, chance.between(1, LONG as usize - 1) as u64]) {
         for t in middle.saturating_sub(1)..=(middle + 1).min(LONG) {
-            longest.theirs(g, chance, t);
+            longest.library(g, chance, t);
         }
     }
 }
@@ -159,7 +159,7 @@ fn longest(g: &mut Group, chance: &mut Chance, counts: &[u8]) {
         let longest = Longest::of(engine, counts, LONGEST);
         longest.is_of_list(g);
         for t in [LONGEST, 1 << 17, (1 << 16) + 1, 1 << 16, (1 << 16) - 1, 100_000] {
-            longest.theirs(g, chance, t);
+            longest.library(g, chance, t);
         }
     }
 }

@@ -1,4 +1,4 @@
-//! Lines for the program `cases`, and what it must print for them by the second implementation.
+//! Lines for the program `cases`, and what it must print for them by the second program.
 use crate::run::Run;
 use crate::second::buffered::{Walk, MOST_CAPACITY};
 use crate::second::disks::Disks;

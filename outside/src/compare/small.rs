@@ -10,7 +10,7 @@ use crate::second::{log, survey};
 const MOST_SLUICES: usize = 5;
 const MOST_SETTINGS: u64 = 1000;
 const CAPACITIES: std::ops::RangeInclusive<usize> = 1..=32;
-/// Up to so many settings ours makes each run anew.
+/// Up to so many settings the second program makes each run anew.
 const MOST_ANEW: u64 = 40;
 
 /// A survey with its list and the move bytes of all its changes.
@@ -98,27 +98,28 @@ fn settings(g: &mut Group, chance: &mut Chance, known: &Known) {
     }
 }
 
-/// Every rank both ways; ours is held to the list too.
+/// Every rank both ways; the second program is held to the list too.
 fn ranks(g: &mut Group, known: &Known) {
     let n = known.counts.len();
     for (rank, setting) in (0..).zip(&known.list) {
         both::rank(g, &known.counts, setting).is(g, || format!("rank of {setting:?} in {:?}", known.counts), Ok(rank));
-        let ours = survey::setting(&known.counts, rank);
-        g.same(|| format!("our setting of rank {rank} in {:?}", known.counts), setting, &ours);
+        let second = survey::setting(&known.counts, rank);
+        g.same(|| format!("the second program's setting of rank {rank} in {:?}", known.counts), setting, &second);
         both::word_is(g, &known.counts, rank, n, Ok(setting));
     }
     both::word_is(g, &known.counts, known.size(), n, Err(8));
 }
 
-/// Every capacity, and so walks that run dry: they make as many moves as ours does, all of them the list's. None runs dry if
-/// the capacity is half of the moving sluices or more. At the least such capacity and the one below it, runs have every length.
+/// Every capacity, and so walks that run dry: they make as many moves as the second program does, all of them the list's. None
+/// runs dry if the capacity is half of the moving sluices or more. At the least such capacity and the one below it, runs have
+/// every length.
 fn buffered_runs(g: &mut Group, chance: &mut Chance, known: &Known) {
     let counts = &known.counts;
     let enough = enough(counts);
     for capacity in CAPACITIES {
         let longest = Longest::of(Engine::Buffered(capacity), counts, known.past_end());
         let least = if capacity >= enough { known.moves.len() } else { 0 };
-        let name = || format!("our buffered moves of {counts:?}, capacity {capacity}");
+        let name = || format!("the second program's buffered moves of {counts:?}, capacity {capacity}");
         let listed = longest.moves.len().clamp(least, known.moves.len());
         g.same(name, &known.moves[..listed], &longest.moves[..]);
         if capacity == enough || capacity + 1 == enough {
@@ -140,7 +141,7 @@ fn disk_runs(g: &mut Group, chance: &mut Chance, known: &Known) {
         return runs_of_some_lengths(g, chance, known, &longest);
     }
     g.same(
-        || format!("our disk moves of {:?}", known.counts),
+        || format!("the second program's disk moves of {:?}", known.counts),
         &known.moves,
         &longest.moves,
     );
@@ -150,9 +151,9 @@ fn disk_runs(g: &mut Group, chance: &mut Chance, known: &Known) {
 /// Every t from none to past the end.
 fn runs_of_all_lengths(g: &mut Group, chance: &mut Chance, known: &Known, longest: &Longest) {
     for t in 0..=known.past_end() {
-        longest.theirs(g, chance, t);
+        longest.library(g, chance, t);
         if known.size() <= MOST_ANEW {
-            longest.ours(g, t);
+            longest.second(g, t);
         }
     }
 }
@@ -160,7 +161,7 @@ fn runs_of_all_lengths(g: &mut Group, chance: &mut Chance, known: &Known, longes
 fn runs_of_some_lengths(g: &mut Group, chance: &mut Chance, known: &Known, longest: &Longest) {
     let last = known.moves.len() as u64;
     for t in [0, chance.below(known.size()), last, last + 1] {
-        longest.theirs(g, chance, t);
+        longest.library(g, chance, t);
     }
 }
 
@@ -177,7 +178,7 @@ fn logs_of_all_lengths(g: &mut Group, chance: &mut Chance, known: &Known) {
     both::log_is(g, &known.counts, capacity, known.size(), room, Err(8));
 }
 
-/// Logs of every capacity at a few t, ours written and read as well.
+/// Logs of every capacity at a few t, the second program's written and read as well.
 fn logs_of_all_capacities(g: &mut Group, chance: &mut Chance, known: &Known) {
     for capacity in CAPACITIES {
         for t in [0, chance.below(known.size()), known.size() - 1] {

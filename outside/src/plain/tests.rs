@@ -276,7 +276,7 @@ fn all_locked() {
     }
 }
 
-/// The ends of what refusals 2 to 6 leave, with the answers as the papers have them.
+/// The ends of what refusals 2 to 6 leave, with the answers as document 01 has them.
 #[test]
 fn refused_at_the_bounds() {
     let mut largest = [2; 48];

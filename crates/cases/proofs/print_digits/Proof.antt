@@ -14,8 +14,8 @@ abbrev μ-loop : tie.MeasureT-loop
 print-name-requires : tie.Need-print-name-requires Inv-loop μ-loop
 print-name-requires c κs = search needs
 
-within-requires : tie.Need-within-requires Inv-loop μ-loop
-within-requires c κs = search needs
+min-len-requires : tie.Need-min-len-requires Inv-loop μ-loop
+min-len-requires c κs = search needs
 
 loop-holds : tie.Need-loop-holds Inv-loop μ-loop
 loop-holds c = search needs
@@ -45,7 +45,7 @@ print-digits-spec =
     Inv-loop
     μ-loop
     print-name-requires
-    within-requires
+    min-len-requires
     loop-holds
     sub-i
     shared-slice-read-print-item

@@ -14,8 +14,8 @@ abbrev μ-loop : tie.MeasureT-loop
 print-name-requires : tie.Need-print-name-requires Inv-loop μ-loop
 print-name-requires c κs = search needs
 
-least-requires : tie.Need-least-requires Inv-loop μ-loop
-least-requires c κs = search needs
+min-requires : tie.Need-min-requires Inv-loop μ-loop
+min-requires c κs = search needs
 
 loop-holds : tie.Need-loop-holds Inv-loop μ-loop
 loop-holds c = search needs
@@ -48,7 +48,7 @@ print-directions-spec =
     Inv-loop
     μ-loop
     print-name-requires
-    least-requires
+    min-requires
     loop-holds
     sub-i
     shared-slice-read-print-item

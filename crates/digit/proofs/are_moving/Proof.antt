@@ -3,7 +3,7 @@ use Prim.Native.Nat.{_-_, _≤_, _<_}
 use mathlib.Core.Path.{_≡_, refl}
 use native.Mathlib.Omega.{arith}
 use borrow.Author.Needs.{needs}
-use lib.ListN.{length, getD}
+use lib.ListN.{length}
 use Rattle.digit.specs.Moving.{movingAs}
 use Rattle.digit.proofs.Laws.{goes-on, ends, moving-few, Looked, looked-none, looked-more, looked-at-all}
 use Rattle.digit.proofs.are_moving.Statement.{statement}

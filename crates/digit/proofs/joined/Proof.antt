@@ -1,7 +1,6 @@
 -- `digit::joined` meets its contract. Assumes nothing.
 use borrow.Author.Needs.{needs}
 use Rattle.digit.proofs.Laws.{joins, passes}
-use native.Mathlib.Omega.{arith}
 use Rattle.digit.proofs.joined.Statement.{statement}
 use Rattle.digit.proofs.joined.Tie as tie
 

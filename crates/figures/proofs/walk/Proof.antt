@@ -6,11 +6,11 @@ use Rattle.figures.proofs.walk.Statement.{statement}
 use Rattle.figures.proofs.walk.Tie as tie
 
 abbrev Inv-loop : tie.InvT-loop
-Inv-loop n words engine₀ answer₀ settings₀ moves₀ at₀ engine answer settings moves at =
+Inv-loop n words engine₀ settings₀ moves₀ ended₀ at₀ engine settings moves ended at =
     (0 < n) × (at ≤ length words) × (settings ≤ at) × (moves ≤ at)
 
 abbrev μ-loop : tie.MeasureT-loop
-μ-loop n words engine₀ answer₀ settings₀ moves₀ at₀ engine answer settings moves at = length words - at
+μ-loop n words engine₀ settings₀ moves₀ ended₀ at₀ engine settings moves ended at = length words - at
 
 loop-holds : tie.Need-loop-holds Inv-loop μ-loop
 loop-holds c = search needs
@@ -63,14 +63,14 @@ one-requires-2 c κs = search needs
 add-moves : tie.Need-add-moves Inv-loop μ-loop
 add-moves c = search needs
 
+is-end-requires : tie.Need-is-end-requires Inv-loop μ-loop
+is-end-requires c κs = search needs
+
 loop-less : tie.Need-loop-less Inv-loop μ-loop
 loop-less c = search needs
 
 loop-again : tie.Need-loop-again Inv-loop μ-loop
 loop-again c = search needs
-
-is-end-requires : tie.Need-is-end-requires Inv-loop μ-loop
-is-end-requires c κs = search needs
 
 returns : tie.Need-returns Inv-loop μ-loop
 returns c = search needs
@@ -98,7 +98,7 @@ walk-spec =
     is-move-requires
     one-requires-2
     add-moves
+    is-end-requires
     loop-less
     loop-again
-    is-end-requires
     returns)

@@ -4,7 +4,6 @@ use Prim.Native.Nat.{_-_, _*_, _^_, _≤_}
 use native.Mathlib.Omega.{arith}
 use borrow.Author.Needs.{needs}
 use borrow.Author.Tests.{not-false}
-use lib.ListN.{length}
 use Rattle.gray.specs.Stages.{Taken}
 use Rattle.gray.proofs.Laws.{taken-none, taken-four}
 use Rattle.gray.proofs.fours.Statement.{statement}

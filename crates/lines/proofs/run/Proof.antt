@@ -17,11 +17,11 @@ loop-holds c = search needs
 find-requires : tie.Need-find-requires Inv-loop μ-loop
 find-requires c κs = search needs
 
-add-within : tie.Need-add-within Inv-loop μ-loop
-add-within c = search needs
+add-min-len : tie.Need-add-min-len Inv-loop μ-loop
+add-min-len c = search needs
 
-within-requires : tie.Need-within-requires Inv-loop μ-loop
-within-requires c κs = search needs
+min-len-requires : tie.Need-min-len-requires Inv-loop μ-loop
+min-len-requires c κs = search needs
 
 sub-print-answer : tie.Need-sub-print-answer Inv-loop μ-loop
 sub-print-answer c = search needs
@@ -61,8 +61,8 @@ run-spec =
     μ-loop
     loop-holds
     find-requires
-    add-within
-    within-requires
+    add-min-len
+    min-len-requires
     sub-print-answer
     part-print-answer-start
     part-print-answer-end

@@ -49,11 +49,7 @@ loop-again c =
       turn .copy .kept .1 .1 .1 .0 ∙ at .loop .inv .1,
       chunk-to (args .at) i i (args .c) (i + args .c) (args .word .now) (args .out .now) (at .loop .out)
           (turn .copy .last .1 .1 .1 .0)
-          (omega arith)
-          (omega arith)
-          (omega arith)
-          (omega arith)
-          (omega arith)
+          (omega arith) (omega arith) (omega arith) (omega arith) (omega arith)
           (at .loop .inv .2)
           (turn .copy .ensures),
     )
@@ -76,11 +72,7 @@ returns c =
     let args = at .before .before .args in
     chunk-to (args .at) (args .k - args .c) (at .loop .i) (args .c) (args .k) (args .word .now) (args .out .now) (at .loop .out)
     (end .copy2 .last .1 .1 .1 .0)
-    (omega arith)
-    (omega arith)
-    (omega arith)
-    (omega arith)
-    (omega arith)
+    (omega arith) (omega arith) (omega arith) (omega arith) (omega arith)
     (at .loop .inv .2)
     (end .copy2 .ensures)
 

@@ -96,7 +96,7 @@ returns-5 : tie.Need-returns-5
 returns-5 c =
     let some = c .before .before .before .before .before .before .before in
     run-written _ _ (size-is (some .before .before .before .before)) _ _ (run-is (some .before .before)) _
-    (omega (arith, some .before .if2 .left)) _ (c .before .before .up .ensures .0)
+    (omega (arith, some .before .if2 .left)) _ (c .before .before .up .ensures .wrote)
 
 pub list-spec : {M : Type 1} → statement M
 list-spec =

@@ -1,4 +1,5 @@
--- `lister::row` meets its contract: before word u the output holds the words from `skip` on that come before it. Assumes nothing.
+-- `lister::row` meets its contract: before word u the output holds the words from `skip` on that come before it. Assumes
+-- nothing.
 use Prim.Native.Nat.{_+_, _-_, _≤_}
 use native.Mathlib.Omega.{arith}
 use borrow.Author.Needs.{needs}

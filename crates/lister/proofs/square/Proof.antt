@@ -1,5 +1,5 @@
--- `lister::square` meets its contract: it is a lister of the last two digits. The invariant of its loop is `Along` of a word that
--- is stored nowhere, with digit a in its place, and `Turns` says what a turn does to it. Assumes nothing.
+-- `lister::square` meets its contract: it is a lister of the last two digits. The invariant of its loop is `Along` of a word
+-- that is stored nowhere, with digit a in its place, and `Turns` says what a turn does to it. Assumes nothing.
 use Prim.Native.Nat.{_-_, _≤_, _<_}
 use native.Mathlib.Omega.{arith}
 use mathlib.Core.Path.{refl}

@@ -1,4 +1,4 @@
--- `text::as_count` meets its contract: a count is a number of at most three digits, up to 255. Assumes nothing.
+-- `reader::as_count` meets its contract: a count is a number of at most three digits, up to 255. Assumes nothing.
 use mathlib.Core.Path.{sym, _∙_}
 use borrow.Author.Needs.{needs}
 use Rattle.reader.proofs.Readings.{no-number, large-number, is-count}

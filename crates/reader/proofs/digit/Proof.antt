@@ -1,4 +1,4 @@
--- `text::digit` meets its contract: below, above and within the digits. Assumes nothing.
+-- `reader::digit` meets its contract: below, above and within the digits. Assumes nothing.
 use mathlib.Core.Path.{sym}
 use borrow.Author.Needs.{needs}
 use Rattle.reader.proofs.Numbers.{digit-below, digit-above, digit-within}

@@ -1,4 +1,4 @@
--- `text::number` meets its contract: what all bytes say is what those from i on say behind the value of the first i. Assumes
+-- `reader::number` meets its contract: what all bytes say is what those from i on say behind the value of the first i. Assumes
 -- nothing.
 use Prim.Native.Nat.{ℕ, _+_, _-_, _*_, _^_, _≤_, _<_}
 use mathlib.Core.Path.{_≡_, sym, ap, _∙_}

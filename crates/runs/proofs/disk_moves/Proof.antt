@@ -1,13 +1,15 @@
--- `runs::disk_moves` meets its contract: an opening that is refused passes its number on, and one that is accepted is run. Assumes nothing.
-use mathlib.Core.Path.{_≡_, sym, ap, _∙_}
+-- `runs::disk_moves` meets its contract: an opening that is refused passes its number on, and one that is accepted is run. Assumes
+-- nothing.
+use mathlib.Core.Path.{_≡_, ap, _∙_}
 use Rattle.gray_theory.specs.Answers.{numberOf}
-use Rattle.gray_theory.specs.Engines.{Handed}
+use Rattle.gray_theory.specs.RunCalls.{Running}
 use Rattle.gray.specs.Enums.{openingAs}
 use Rattle.towers_theory.specs.States.{Towers}
 use Rattle.towers_theory.specs.Calls.{closedTowers, openOf, runOf}
 use Rattle.towers.specs.Structs.{openedAs}
-use Rattle.runs_theory.specs.Runs.{diskMovesCall}
-use Rattle.runs.proofs.Openings.{opening-refused, opening-runs}
+use Rattle.runs_theory.specs.MoveCalls.{diskMovesCall}
+use Rattle.runs.specs.Stages.{movesOf}
+use Rattle.runs.proofs.Openings.{called-on, opening-refused, opening-runs}
 use borrow.Author.Needs.{needs}
 use Rattle.runs.proofs.disk_moves.Statement.{statement}
 use Rattle.runs.proofs.disk_moves.Tie as tie
@@ -33,16 +35,16 @@ opening : (c : tie.After-open)
     openedAs (c .open .result) ≡ openOf closedTowers (a .radices .now)
 opening c =
     let a = c .before .before .before .before .args in
-    c .open .ensures ∙ ap (λ (s : Towers). openOf s (a .radices .now)) (c .before .closed .ensures)
+    called-on (λ (s : Towers). openOf s (a .radices .now)) (c .open .ensures) (c .before .closed .ensures)
 
 returns : tie.Need-returns
 unfolding diskMovesCall
 returns c =
     let told = c .before in
-    let began = told .before .before in
-    let a = began .before .before .before .before .args in
-    opening-refused (openOf closedTowers (a .radices .now)) (λ s. runOf s (a .t) (a .out .now)) _ _ _
-    (ap (λ (h : Handed Towers Unit). h .answer) (sym (opening began)) ∙ ap openingAs (told .enum-told2 .given .1))
+    let opened = told .before .before in
+    let a = opened .before .before .before .before .args in
+    opening-refused (openOf closedTowers (a .radices .now)) (λ s. runOf s (a .t) (a .out .now)) _ (openedAs (opened .open .result)) (opening opened) _ _
+    (ap openingAs (told .enum-told2 .given .1))
     (c .number .ensures ∙ ap (λ o. numberOf (openingAs o)) (told .enum-told2 .given .1))
 
 run-requires : tie.Need-run-requires
@@ -56,12 +58,11 @@ unfolding diskMovesCall
 returns-2 c =
     let ran = c .before .before in
     let told = ran .before .before .before in
-    let began = told .before .before in
-    let a = began .before .before .before .before .args in
-    opening-runs (openOf closedTowers (a .radices .now)) (λ s. runOf s (a .t) (a .out .now)) _ _ _ _ _
-    (ap (λ (h : Handed Towers Unit). h .answer) (sym (opening began)) ∙ ap openingAs (told .enum-told .given .1))
-    (ap (λ (h : Handed Towers Unit). h .state) (opening began))
-    (ran .run .ensures)
+    let opened = told .before .before in
+    let a = opened .before .before .before .before .args in
+    opening-runs (openOf closedTowers (a .radices .now)) (λ s. runOf s (a .t) (a .out .now)) _ (openedAs (opened .open .result)) (opening opened) _
+    (ap openingAs (told .enum-told .given .1))
+    (ap (λ (r : Running Towers). movesOf r) (ran .run .ensures))
 
 pub disk-moves-spec : {M : Type 1} → statement M
 disk-moves-spec =

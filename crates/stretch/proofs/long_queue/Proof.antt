@@ -34,19 +34,19 @@ loop-less c = omega arith
 
 loop-again : tie.Need-loop-again Inv-loop μ-loop
 loop-again c =
-    let at = c .before in
-    let entries = at .before .args .t1 in
-    let i = at .loop .i in
-    let long = long-entries at in
-    (omega arith, fill-more 1056 0 entries (at .loop .queue) i _ (omega arith) (omega arith) refl (at .loop .inv .1))
+    let turn = c .before in
+    let entries = turn .before .args .t1 in
+    let i = turn .loop .i in
+    let long = long-entries turn in
+    (omega arith, fill-more 1056 0 entries (turn .loop .queue) i _ (omega arith) (omega arith) refl (turn .loop .inv .1))
 
 returns : tie.Need-returns Inv-loop μ-loop
 returns c =
-    let at = c .before in
-    let entries = at .before .args .t1 in
-    let long = long-entries at in
-    let all : at .loop .i ≡ length entries = omega arith in
-    fill-all 1056 0 entries (at .loop .queue) (at .loop .i) all (at .loop .inv .1)
+    let turn = c .before in
+    let entries = turn .before .args .t1 in
+    let long = long-entries turn in
+    let all : turn .loop .i ≡ length entries = omega arith in
+    fill-all 1056 0 entries (turn .loop .queue) (turn .loop .i) all (turn .loop .inv .1)
 
 pub long-queue-spec : {M : Type 1} → statement M
 long-queue-spec =

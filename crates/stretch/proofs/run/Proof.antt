@@ -1,5 +1,5 @@
--- `stretch::run` meets its contract: the calls are made on a long queue, and what they leave is counted from the oldest entry again.
--- Assumes nothing.
+-- `stretch::run` meets its contract: the calls are made on a long queue, and what they leave is counted from the oldest entry
+-- again. Assumes nothing.
 use mathlib.Core.Path.{_≡_}
 use lib.ListN.{length}
 use borrow.Author.Needs.{needs}

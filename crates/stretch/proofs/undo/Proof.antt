@@ -22,16 +22,16 @@ same-length : tie.Need-same-length
 same-length c = search needs
 
 returns : tie.Need-returns
-returns c = let at = c .before .before .args in back-two (at .rest .now) (at .from) (at .to) (c .before .if1 .taken) (c .if2 .taken)
+returns c = let a = c .before .before .args in back-two (a .rest .now) (a .from) (a .to) (c .before .if1 .taken) (c .if2 .taken)
 
 same-length-2 : tie.Need-same-length-2
 same-length-2 c = search needs
 
 returns-2 : tie.Need-returns-2
-returns-2 c = let at = c .before .before .args in back-one (at .rest .now) (at .from) (at .to) (c .before .if1 .taken) (c .if2 .left)
+returns-2 c = let a = c .before .before .args in back-one (a .rest .now) (a .from) (a .to) (c .before .if1 .taken) (c .if2 .left)
 
 returns-3 : tie.Need-returns-3
-returns-3 c = let at = c .before .args in back-none (at .rest .now) (at .from) (at .to) (c .if1 .left)
+returns-3 c = let a = c .before .args in back-none (a .rest .now) (a .from) (a .to) (c .if1 .left)
 
 pub undo-spec : {M : Type 1} → statement M
 undo-spec =

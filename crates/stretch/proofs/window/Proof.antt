@@ -35,21 +35,21 @@ loop-less c = omega arith
 
 loop-again : tie.Need-loop-again Inv-loop μ-loop
 loop-again c =
-    let at = c .before .before in
-    let queue = at .before .args .queue .now in
-    let from = at .before .args .from in
-    let i = at .loop .i in
+    let turn = c .before .before in
+    let queue = turn .before .args .queue .now in
+    let from = turn .before .args .from in
+    let i = turn .loop .i in
     let long = length-drop from queue in
     let read : getD queue (from + i) 0 ≡ getD (drop from queue) i 0 = sym (getD-drop from queue i 0) in
-    (omega arith, fill-more 32 0 (drop from queue) (at .loop .entries) i _ (omega arith) (omega arith) read (at .loop .inv .1))
+    (omega arith, fill-more 32 0 (drop from queue) (turn .loop .entries) i _ (omega arith) (omega arith) read (turn .loop .inv .1))
 
 returns : tie.Need-returns Inv-loop μ-loop
 returns c =
-    let at = c .before in
-    let queue = at .before .args .queue .now in
-    let from = at .before .args .from in
-    let all : at .loop .i ≡ 32 = omega arith in
-    at .loop .inv .1 ∙ ap (λ n. take n (drop from queue) ++ replicate (32 - n) 0) all ∙ append-nil (take 32 (drop from queue))
+    let turn = c .before in
+    let queue = turn .before .args .queue .now in
+    let from = turn .before .args .from in
+    let all : turn .loop .i ≡ 32 = omega arith in
+    turn .loop .inv .1 ∙ ap (λ n. take n (drop from queue) ++ replicate (32 - n) 0) all ∙ append-nil (take 32 (drop from queue))
 
 pub window-spec : {M : Type 1} → statement M
 window-spec =

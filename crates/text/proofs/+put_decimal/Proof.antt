@@ -6,123 +6,83 @@ use Prim.Native.Nat.{ℕ, _<_}
 use borrow.Fn.Kinds.{In}
 use borrow.Fn.PlainCycle.{Measures, is, falls, and}
 use Rattle.text.proofs.put_decimal.Reads as put-decimal
-use Rattle.text.proofs.put_decimal.Kinds as put-decimal-kinds
-use Rattle.text.proofs.+put_decimal.Lts-put_decimal as put-decimal-lts
+use Rattle.text.proofs.put_decimal.Kinds as kinds
+use Rattle.text.proofs.+put_decimal.Lts-put_decimal as lts
 use Rattle.text.proofs.+put_decimal.{statement}
 use Rattle.text.proofs.+put_decimal.Tie.{close}
 
-abbrev μ-put-decimal : Measures 1 put-decimal-kinds.ps ℕ
-μ-put-decimal κs a = a .0
+abbrev μ : Measures 1 kinds.ps ℕ
+μ κs a = a .0
 
-abbrev put-decimal-at : ℕ → In 1 put-decimal-kinds.ps
-put-decimal-at t =
-    and 1 put-decimal-kinds.ps (is 1 put-decimal-kinds.ps μ-put-decimal t) put-decimal.Pre
+-- at the measure t: what it is given, and what a call of it asks
+module _ (t : ℕ) where
+  abbrev given : In 1 kinds.ps
+  given = and 1 kinds.ps (is 1 kinds.ps μ t) put-decimal.Pre
 
-abbrev put-decimal-below : ℕ → In 1 put-decimal-kinds.ps
-put-decimal-below t =
-    and 1 put-decimal-kinds.ps (falls 1 put-decimal-kinds.ps _<_ μ-put-decimal t) put-decimal.Pre
+  abbrev callees : lts.Claims
+  callees = (and 1 kinds.ps (falls 1 kinds.ps _<_ μ t) put-decimal.Pre, put-decimal.Post)
 
-put-decimal-add-out : (t : ℕ) → put-decimal-lts.Need-add-out (
-  put-decimal-below t,
-  put-decimal.Post,
-) (put-decimal-at t) put-decimal.Post
-put-decimal-add-out t c = omega arith
+  cast-out : lts.Need-cast-out callees given put-decimal.Post
+  cast-out c = omega arith
 
-put-decimal-cast-out : (t : ℕ) → put-decimal-lts.Need-cast-out (
-  put-decimal-below t,
-  put-decimal.Post,
-) (put-decimal-at t) put-decimal.Post
-put-decimal-cast-out t c = omega arith
+  add-out : lts.Need-add-out callees given put-decimal.Post
+  add-out c = omega arith
 
-put-decimal-slice-write-out : (t : ℕ) → put-decimal-lts.Need-slice-write-out (
-  put-decimal-below t,
-  put-decimal.Post,
-) (put-decimal-at t) put-decimal.Post
-put-decimal-slice-write-out t c = omega (arith, decimal-not-empty (c .before .before .args .n))
+  slice-write-out : lts.Need-slice-write-out callees given put-decimal.Post
+  slice-write-out c = omega (arith, decimal-not-empty (c .before .before .args .n))
 
-put-decimal-add-result : (t : ℕ) → put-decimal-lts.Need-add-result (
-  put-decimal-below t,
-  put-decimal.Post,
-) (put-decimal-at t) put-decimal.Post
-put-decimal-add-result t c = omega (arith, decimal-not-empty (c .before .before .args .n))
+  add-result : lts.Need-add-result callees given put-decimal.Post
+  add-result c = omega (arith, decimal-not-empty (c .before .before .args .n))
 
-put-decimal-returns : (t : ℕ) → put-decimal-lts.Need-returns (
-  put-decimal-below t,
-  put-decimal.Post,
-) (put-decimal-at t) put-decimal.Post
-put-decimal-returns t c = digit-put _ _ _ (c .if1 .taken) (c .before .before .pre .1)
+  returns : lts.Need-returns callees given put-decimal.Post
+  returns c = digit-put _ _ _ (c .if1 .taken) (c .before .before .pre .1)
 
-put-decimal-same-length : (t : ℕ) → put-decimal-lts.Need-same-length (
-  put-decimal-below t,
-  put-decimal.Post,
-) (put-decimal-at t) put-decimal.Post
-put-decimal-same-length t c = put-decimal-returns t c .room
+  same-length : lts.Need-same-length callees given put-decimal.Post
+  same-length c = returns c .room
 
-put-decimal-put-decimal-requires : (t : ℕ) → put-decimal-lts.Need-put-decimal-requires (
-  put-decimal-below t,
-  put-decimal.Post,
-) (put-decimal-at t) put-decimal.Post
-put-decimal-put-decimal-requires t c κs =
-    let start = c .before .before .before in
-    (omega arith, omega (arith, tenth-length (start .args .n) (omega arith)))
+  put-decimal-requires : lts.Need-put-decimal-requires callees given put-decimal.Post
+  put-decimal-requires c κs = (omega arith, omega (arith, tenth-length (c .before .before .before .args .n) (omega arith)))
 
-put-decimal-add-out-2 : (t : ℕ) → put-decimal-lts.Need-add-out-2 (
-  put-decimal-below t,
-  put-decimal.Post,
-) (put-decimal-at t) put-decimal.Post
-put-decimal-add-out-2 t c = omega arith
+  cast-out-2 : lts.Need-cast-out-2 callees given put-decimal.Post
+  cast-out-2 c = omega arith
 
-put-decimal-cast-out-2 : (t : ℕ) → put-decimal-lts.Need-cast-out-2 (
-  put-decimal-below t,
-  put-decimal.Post,
-) (put-decimal-at t) put-decimal.Post
-put-decimal-cast-out-2 t c = omega arith
+  add-out-2 : lts.Need-add-out-2 callees given put-decimal.Post
+  add-out-2 c = omega arith
 
-put-decimal-slice-write-out-2 : (t : ℕ) → put-decimal-lts.Need-slice-write-out-2 (
-  put-decimal-below t,
-  put-decimal.Post,
-) (put-decimal-at t) put-decimal.Post
-put-decimal-slice-write-out-2 t c =
-    let start = c .before .before .before .before .before .before in
-    omega (arith, tenth-length (start .args .n) (omega arith), c .before .before .put-decimal .ensures .ends, c .before .before .put-decimal .ensures .room)
+  slice-write-out-2 : lts.Need-slice-write-out-2 callees given put-decimal.Post
+  slice-write-out-2 c =
+      let put = c .before .before .put-decimal .ensures in
+      omega (arith, tenth-length (c .before .before .before .before .before .before .args .n) (omega arith), put .ends, put .room)
 
-put-decimal-add-result-2 : (t : ℕ) → put-decimal-lts.Need-add-result-2 (
-  put-decimal-below t,
-  put-decimal.Post,
-) (put-decimal-at t) put-decimal.Post
-put-decimal-add-result-2 t c =
-    let start = c .before .before .before .before .before .before in
-    omega (arith, tenth-length (start .args .n) (omega arith), c .before .before .put-decimal .ensures .ends, c .before .before .put-decimal .ensures .room)
+  add-result-2 : lts.Need-add-result-2 callees given put-decimal.Post
+  add-result-2 c =
+      let put = c .before .before .put-decimal .ensures in
+      omega (arith, tenth-length (c .before .before .before .before .before .before .args .n) (omega arith), put .ends, put .room)
 
-put-decimal-returns-2 : (t : ℕ) → put-decimal-lts.Need-returns-2 (
-  put-decimal-below t,
-  put-decimal.Post,
-) (put-decimal-at t) put-decimal.Post
-put-decimal-returns-2 t c = last-put _ (c .before .before .before .before .if1 .left) (c .before .before .before .before .before .before .pre .1) (c .before .before .put-decimal .ensures)
+  returns-2 : lts.Need-returns-2 callees given put-decimal.Post
+  returns-2 c =
+      let large = c .before .before .before .before in
+      last-put _ (large .if1 .left) (large .before .before .pre .1) (c .before .before .put-decimal .ensures)
 
-put-decimal-same-length-2 : (t : ℕ) → put-decimal-lts.Need-same-length-2 (
-  put-decimal-below t,
-  put-decimal.Post,
-) (put-decimal-at t) put-decimal.Post
-put-decimal-same-length-2 t c = put-decimal-returns-2 t c .room
+  same-length-2 : lts.Need-same-length-2 callees given put-decimal.Post
+  same-length-2 c = returns-2 c .room
+
+  closed : {M : Type 1} → lts.Closed callees given put-decimal.Post M
+  closed =
+      lts.spec callees given put-decimal.Post
+      cast-out
+      add-out
+      slice-write-out
+      add-result
+      same-length
+      returns
+      put-decimal-requires
+      cast-out-2
+      add-out-2
+      slice-write-out-2
+      add-result-2
+      same-length-2
+      returns-2
 
 pub +put-decimal-spec : {M : Type 1} → statement M
-+put-decimal-spec = close μ-put-decimal λ t. put-decimal-lts.spec (
-  put-decimal-below t,
-  put-decimal.Post,
-)
-    (put-decimal-at t)
-    put-decimal.Post
-    (put-decimal-add-out t)
-    (put-decimal-cast-out t)
-    (put-decimal-slice-write-out t)
-    (put-decimal-add-result t)
-    (put-decimal-same-length t)
-    (put-decimal-returns t)
-    (put-decimal-put-decimal-requires t)
-    (put-decimal-add-out-2 t)
-    (put-decimal-cast-out-2 t)
-    (put-decimal-slice-write-out-2 t)
-    (put-decimal-add-result-2 t)
-    (put-decimal-same-length-2 t)
-    (put-decimal-returns-2 t)
++put-decimal-spec = close μ (λ t. closed t)

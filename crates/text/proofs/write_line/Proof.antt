@@ -1,4 +1,5 @@
--- `text::write_line` meets its contract: the line is made first, and then there is room for it or there is not. Assumes nothing.
+-- `text::write_line` meets its contract: the line is made first, and then there is room for it or there is not. Assumes
+-- nothing.
 use mathlib.Core.Path.{_≡_, sym, ap, _∙_}
 use native.Mathlib.Omega.{arith}
 use borrow.Author.Needs.{needs}

@@ -42,7 +42,7 @@ counted c = c .before .before .before
 slice-aggregate-first-on-pair : tie.Need-slice-aggregate-first-on-pair
 slice-aggregate-first-on-pair c =
     let at = counted c in
-    let long = start at .pre .long .moving in
+    let long = start at .pre .long .directed .moving in
     let most = fits at in
     sym (length-take-le _ _ (omega arith))
 

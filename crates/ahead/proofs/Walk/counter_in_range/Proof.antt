@@ -1,13 +1,13 @@
 -- `ahead::Walk::counter_in_range` meets its contract. Assumes nothing.
 use Prim.Native.Nat.{_≤_}
-use mathlib.Core.Path.{_≡_, refl, sym}
+use mathlib.Core.Path.{refl, sym}
 use native.Mathlib.Omega.{arith}
 use borrow.Author.Needs.{needs}
 use lib.ListN.{length, take}
 use lib.Seq.{length-take-le}
-use Rattle.ahead_theory.specs.InRange.{Arrays}
+use Rattle.ahead_theory.specs.States.{Arrays}
 use Rattle.ahead.specs.Structs.{walkAs}
-use Rattle.ahead.proofs.Ranges.{moving-most, moving-numbers, all-counted, moving-counted}
+use Rattle.ahead.proofs.Ranges.{moving-most, lent-numbers, all-counted, moving-counted}
 use Rattle.ahead.proofs.Walk.counter_in_range.Statement.{statement}
 use Rattle.ahead.proofs.Walk.counter_in_range.Tie as tie
 
@@ -20,7 +20,7 @@ start c = c .before .before .before .before .before
 -- as many digits move as there are places for
 few : (c : tie.After-wide) → c .wide .result ≤ 48
 few c =
-    let most = moving-most (walkAs (start c .args .self)) (lengths (start c)) (start c .pre) in
+    let most = moving-most _ (lengths (start c) .directed) (start c .pre) in
     let same = c .wide .ensures .0 in
     omega arith
 
@@ -37,7 +37,7 @@ returns : tie.Need-returns
 returns c =
     let wide = c .before .before .before in
     let begun = start wide in
-    all-counted (walkAs (begun .args .self)) (lengths begun) (begun .pre) _ (wide .wide .ensures .0) _ _ (c .before .if1 .taken) (c .places-below .ensures) refl
+    all-counted _ (lengths begun .directed) (begun .pre) _ (wide .wide .ensures .0) (begun .args .self .producer .counter) _ _ refl (c .before .if1 .taken) (c .places-below .ensures)
 
 slice-aggregate-moving-below : tie.Need-slice-aggregate-moving-below
 slice-aggregate-moving-below c = search needs
@@ -46,7 +46,7 @@ abbrev counted : tie.After-radices2 → tie.After-wide
 counted c = c .before .before .before .before
 
 array-share-prefix-numbers : tie.Need-array-share-prefix-numbers
-array-share-prefix-numbers c = let long = lengths (start (counted c)) .moving in omega (arith, few (counted c))
+array-share-prefix-numbers c = let long = lengths (start (counted c)) .directed .moving in omega (arith, few (counted c))
 
 slice-aggregate-moving-below-2 : tie.Need-slice-aggregate-moving-below-2
 slice-aggregate-moving-below-2 c = sym (length-take-le _ _ (array-share-prefix-numbers (c .before)))
@@ -64,13 +64,13 @@ moving-below-requires c κs =
     let long = lengths begun .counter in
     let most = few wide in
     let fits : length (take (wide .wide .result) (held .moving .digits)) ≤ length (held .producer .counter) = omega arith in
-    (moving-numbers (walkAs held) (lengths begun) (begun .pre) _ (wide .wide .ensures .0), fits)
+    (lent-numbers _ (lengths begun .directed) (begun .pre) _ (wide .wide .ensures .0), fits)
 
 returns-2 : tie.Need-returns-2
 returns-2 c =
     let wide = counted (c .before .before .before) in
     let begun = start wide in
-    moving-counted (walkAs (begun .args .self)) (lengths begun) (begun .pre) _ (wide .wide .ensures .0) _ _ (c .moving-below .ensures) refl
+    moving-counted _ (lengths begun .directed) (begun .pre) _ (wide .wide .ensures .0) (begun .args .self .producer .counter) _ _ refl (c .moving-below .ensures)
 
 pub counter-in-range-spec : {M : Type 1} → statement M
 counter-in-range-spec =

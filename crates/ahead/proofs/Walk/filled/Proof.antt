@@ -1,9 +1,8 @@
 -- `ahead::Walk::filled` meets its contract: each turn makes a useful work step, until the buffer is full. Assumes nothing.
 use mathlib.Core.Path.{sym}
-use Rattle.ahead_theory.specs.States.{Walk}
-use Rattle.ahead_theory.specs.InRange.{Arrays}
-use Rattle.ahead.specs.Structs.{walkAs}
-use Rattle.ahead.specs.Stages.{assembled, Workable}
+use Rattle.ahead_theory.specs.States.{Walk, Arrays}
+use Rattle.ahead.specs.Structs.{producerWith, walkAs}
+use Rattle.ahead.specs.Stages.{Workable}
 use Rattle.ahead.proofs.Fills.{Filling, fillsLeft, fill-begun, fill-workable, fill-more, fill-less, fill-ended}
 use borrow.Author.Needs.{needs}
 use Rattle.ahead.proofs.Walk.filled.Statement.{statement}
@@ -11,7 +10,7 @@ use Rattle.ahead.proofs.Walk.filled.Tie as tie
 
 abbrev Inv-loop : tie.InvT-loop
 Inv-loop self entries c n radices word downs moving count numbers counter₀ queue₀ at₀ counter queue at =
-    Filling (walkAs self) (assembled counter queue at)
+    Filling (walkAs self) (producerWith counter queue at)
 
 abbrev μ-loop : tie.MeasureT-loop
 μ-loop self entries c n radices word downs moving count numbers counter₀ queue₀ at₀ counter queue at =
@@ -22,7 +21,7 @@ lengths c = search needs
 
 -- where the loop stands: the walk, what it asks for, and the step that a turn makes
 abbrev start : tie.At-loop Inv-loop μ-loop → tie.Start Inv-loop μ-loop
-start l = l .before .before .before .before .before .before .before .before .before
+start l = l .before .before .before .before .before .before .before .before .before .before
 
 abbrev walk : tie.At-loop Inv-loop μ-loop → Walk
 walk l = walkAs (start l .args .self)
@@ -32,17 +31,17 @@ turn c = c .before .before .before .before .before .before
 
 loop-holds : tie.Need-loop-holds Inv-loop μ-loop
 loop-holds c =
-    let at = c .before .before .before .before .before .before .before .before in
-    fill-begun (walkAs (at .args .self)) _ (at .pre) (lengths at)
+    let begun = c .before .before .before .before .before .before .before .before .before in
+    fill-begun (walkAs (begun .args .self)) _ (begun .pre) (lengths begun)
 
 slice-aggregate-work : tie.Need-slice-aggregate-work Inv-loop μ-loop
-slice-aggregate-work c = sym (lengths (start (c .before .before .before)) .radices)
+slice-aggregate-work c = sym (lengths (start (c .before .before .before)) .directed .radices)
 
 slice-aggregate-work-2 : tie.Need-slice-aggregate-work-2 Inv-loop μ-loop
-slice-aggregate-work-2 c = sym (lengths (start (c .before .before .before .before)) .moving)
+slice-aggregate-work-2 c = sym (lengths (start (c .before .before .before .before)) .directed .moving)
 
 workable : (l : tie.At-loop Inv-loop μ-loop)
-    → Workable (walk l .radices) (walk l .moving .digits) (walk l .n) (walk l .moving .count) (walk l .capacity) (l .loop .counter) (l .loop .queue) (l .loop .at)
+    → Workable (walk l .directed .radices) (walk l .directed .moving .digits) (walk l .directed .n) (walk l .directed .moving .count) (walk l .capacity) (l .loop .counter) (l .loop .queue) (l .loop .at)
 workable l = fill-workable (walk l) _ (start l .pre) (lengths (start l)) (l .loop .counter) (l .loop .queue) (l .loop .at) (l .loop .inv)
 
 slice-aggregate-work-3 : tie.Need-slice-aggregate-work-3 Inv-loop μ-loop

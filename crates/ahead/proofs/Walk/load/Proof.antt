@@ -1,9 +1,9 @@
 -- `ahead::Walk::load` meets its contract: after i turns the first i of the digits that move are loaded. Assumes nothing.
-use Prim.Native.Nat.{_+_, _-_, _≤_, _<_}
+use Prim.Native.Nat.{_-_, _≤_, _<_}
 use native.Mathlib.Omega.{arith}
-use mathlib.Core.Path.{_≡_, sym, ap, _∙_}
-use lib.ListN.{length, length-set}
-use Rattle.ahead_theory.specs.InRange.{Arrays}
+use mathlib.Core.Path.{sym, _∙_}
+use lib.ListN.{length-set}
+use Rattle.ahead_theory.specs.States.{Arrays}
 use Rattle.ahead.specs.Structs.{walkAs}
 use Rattle.ahead.proofs.Loads.{few, LoadedTo, loaded-none, number-fits, loadable, loaded-more, counter-last, loaded-all}
 use borrow.Author.Needs.{needs}
@@ -36,8 +36,8 @@ inside c = let e = c .before .before .before .before .before .before .wide .ensu
 
 number-there : (c : tie.After-wide2 Inv-loop μ-loop) → (1 ≤ c .wide2 .result) × (c .wide2 .result ≤ 48)
 number-there c =
-    let at = start (c .before .before) in
-    let (low, high) = number-fits _ (at .pre .0) (lengths at) (c .before .before .loop .i) (inside (c .before)) in
+    let begun = start (c .before .before) in
+    let (low, high) = number-fits _ (begun .pre .0) (lengths begun) (c .before .before .loop .i) (inside (c .before)) in
     let e = c .wide2 .ensures .0 in
     (omega arith, omega arith)
 
@@ -73,8 +73,8 @@ array-read-load-digit-3 c = let (low, high) = number-there c in omega arith
 
 load-digit-requires : tie.Need-load-digit-requires Inv-loop μ-loop
 load-digit-requires c κs =
-    let at = start (c .before .before .before .before .before .before) in (
-      loadable _ (at .pre .0) (lengths at) _ (inside (c .before .before .before .before .before)) _ (c .before .before .before .before .wide2 .ensures .0),
+    let begun = start (c .before .before .before .before .before .before) in (
+      loadable _ (begun .pre .0) (lengths begun) _ (inside (c .before .before .before .before .before)) _ (c .before .before .before .before .wide2 .ensures .0),
       c .before .before .before .before .before .before .loop .inv .1 .wide,
     )
 
@@ -83,9 +83,9 @@ loop-less c = let l = c .before .before .before .before .before .before .before 
 
 loop-again : tie.Need-loop-again Inv-loop μ-loop
 loop-again c =
-    let at = start (c .before .before .before .before .before .before .before .before .before .before .before .before .before .before .before) in (
+    let begun = start (c .before .before .before .before .before .before .before .before .before .before .before .before .before .before .before) in (
       let l = c .before .before .before .before .before .before .before .before .before .before .before .before .before .before .loop-test .taken in omega arith,
-      loaded-more _ (at .pre .0) (lengths at) _ (inside (c .before .before .before .before .before .before .before .before .before .before .before .before .before .before)) _ _ _ _ _ _ _ _ _ (c .before .before .before .before .before .before .before .before .before .before .before .before .before .wide2 .ensures .0)
+      loaded-more _ (begun .pre .0) (lengths begun) _ (inside (c .before .before .before .before .before .before .before .before .before .before .before .before .before .before)) _ _ _ _ _ _ _ _ _ (c .before .before .before .before .before .before .before .before .before .before .before .before .before .wide2 .ensures .0)
           (c .before .before .before .before .before .before .before .before .before .before .before .before .before .before .before .loop .inv .1)
           (c .before .before .before .before .before .before .before .before .load-digit .ensures),
     )
@@ -101,8 +101,8 @@ array-read-rest c = let f = few-there (c .before) in omega arith
 
 sub-rest : tie.Need-sub-rest Inv-loop μ-loop
 sub-rest c =
-    let at = start (c .before) in
-    counter-last _ (at .pre .0) (lengths at) _ (c .before .before .before .before .before .before .wide .ensures .0)
+    let begun = start (c .before) in
+    counter-last _ (begun .pre .0) (lengths begun) _ (c .before .before .before .before .before .before .wide .ensures .0)
 
 slice-write-rest : tie.Need-slice-write-rest Inv-loop μ-loop
 slice-write-rest c = let f = few-there (c .before) in let w = c .before .loop .inv .1 .wide .rest-long in omega arith
@@ -123,8 +123,8 @@ same-length-4 c = c .before .loop .inv .1 .wide .bytes-long ∙ sym (start (c .b
 
 returns : tie.Need-returns Inv-loop μ-loop
 returns c =
-    let at = start (c .before) in
-    loaded-all _ (at .pre .0) (lengths at) _ _ _ _ _ _ (c .before .before .before .before .before .before .wide .ensures .0) (c .loop-test .left) (c .before .loop .inv .1)
+    let begun = start (c .before) in
+    loaded-all _ (begun .pre .0) (lengths begun) _ _ _ _ _ _ (c .before .before .before .before .before .before .wide .ensures .0) (c .loop-test .left) (c .before .loop .inv .1)
 
 pub load-spec : {M : Type 1} → statement M
 load-spec =

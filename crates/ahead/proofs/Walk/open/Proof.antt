@@ -1,32 +1,36 @@
--- `ahead::Walk::open` meets its contract: what the checks refuse hands the state back, and what passes them opens. Assumes nothing.
+-- `ahead::Walk::open` meets its contract: what the checks refuse hands the state back, and what passes them opens. Assumes
+-- nothing.
 use Prim.Native.Nat.{_≤_}
 use native.Mathlib.Omega.{arith}
-use mathlib.Core.Path.{_≡_, sym}
+use mathlib.Core.Path.{_≡_, sym, ap, _∙_}
 use lib.ListN.{length}
 use lib.Seq.{length-take-le}
 use Rattle.digit.specs.Moving.{movingAs}
 use Rattle.gray_theory.specs.Radices.{digits}
 use Rattle.gray_theory.specs.Capacities.{Openable}
+use Rattle.gray_theory.specs.Refusals.{survey-call-given}
+use Rattle.gray.specs.Enums.{countedAs}
+use Rattle.gray.specs.Passing.{survey-passed-on}
 use Rattle.ahead.specs.Structs.{walkAs}
-use Rattle.ahead.proofs.Openings.{checked-on, checked-through, few-digits, opening-refused, opening-given}
+use Rattle.ahead.proofs.Openings.{few-digits, opening-refused, opening-given}
 use borrow.Author.Needs.{needs}
 use Rattle.ahead.proofs.Walk.open.Statement.{statement}
 use Rattle.ahead.proofs.Walk.open.Tie as tie
 
 -- where the checks are made, and what is known once they are passed
-abbrev start : tie.After-checked → tie.Start
+abbrev start : tie.After-survey-size → tie.Start
 start c = c .before .before
 
 opens : (c : tie.After-enum-told) → Openable (digits (start (c .before .before) .args .radices .now)) (start (c .before .before) .args .capacity)
 opens c =
     let a = start (c .before .before) .args in
-    checked-through (a .radices .now) (a .capacity) _ (c .before .before .checked .ensures) _ (c .enum-told .given .1) .0
+    survey-call-given (a .radices .now) (a .capacity) _ (sym (c .before .before .survey-size .ensures) ∙ ap countedAs (c .enum-told .given .1)) .0
 
 few : (c : tie.After-enum-told) → length (start (c .before .before) .args .radices .now) ≤ 48
 few c = few-digits (start (c .before .before) .args .radices .now) _ (opens c)
 
-checked-requires : tie.Need-checked-requires
-checked-requires c κs = search needs
+survey-size-requires : tie.Need-survey-size-requires
+survey-size-requires c κs = search needs
 
 enum-told : tie.Need-enum-told
 enum-told c = search needs
@@ -42,7 +46,7 @@ returns c =
     let told = c .before in
     let a = start (told .before .before) .args in
     opening-refused (walkAs (a .self)) (a .radices .now) (a .capacity) _
-    (checked-on (a .radices .now) (a .capacity) _ (told .before .before .checked .ensures) _ _ _ (told .enum-told2 .given .1) (c .number .ensures))
+    (survey-passed-on (a .radices .now) (a .capacity) _ _ _ _ (told .before .before .survey-size .ensures) (told .enum-told2 .given .1) (c .number .ensures))
 
 reversed-requires : tie.Need-reversed-requires
 reversed-requires c κs = search needs
@@ -82,7 +86,7 @@ pub open-spec : {M : Type 1} → statement M
 open-spec =
     tie.close
     (tie.spec
-    checked-requires
+    survey-size-requires
     enum-told
     enum-told-2
     number-requires

@@ -1,8 +1,8 @@
--- `ahead::Walk::resume` meets its contract: what the checks refuse hands the state back, and what passes them is picked up at its
--- rank. Assumes nothing.
+-- `ahead::Walk::resume` meets its contract: what the checks refuse hands the state back, and what passes them is picked up at
+-- its rank. Assumes nothing.
 use Prim.Native.Nat.{_≤_}
 use native.Mathlib.Omega.{arith}
-use mathlib.Core.Path.{_≡_, sym}
+use mathlib.Core.Path.{_≡_, sym, ap, _∙_}
 use mathlib.Core.Bool.{true}
 use lib.ListN.{length}
 use lib.Seq.{length-take-le}
@@ -10,15 +10,18 @@ use Rattle.digit.specs.Moving.{movingAs}
 use Rattle.gray_theory.specs.Radices.{digits, size}
 use Rattle.gray_theory.specs.Words.{isWord, rank}
 use Rattle.gray_theory.specs.Capacities.{Openable}
+use Rattle.gray_theory.specs.Refusals.{survey-call-given}
+use Rattle.gray.specs.Enums.{countedAs}
+use Rattle.gray.specs.Passing.{survey-passed-on}
 use Rattle.ahead.specs.Structs.{walkAs}
-use Rattle.ahead.proofs.Openings.{checked-on, checked-through, ranked-on, ranked-through, few-digits, resuming-refused}
+use Rattle.ahead.proofs.Openings.{ranked-on, ranked-through, few-digits, resuming-refused}
 use Rattle.ahead.proofs.Resumes.{Resumable, rank-within, small-entries, stands-at, resume-unfilled, resuming-given}
 use borrow.Author.Needs.{needs}
 use Rattle.ahead.proofs.Walk.resume.Statement.{statement}
 use Rattle.ahead.proofs.Walk.resume.Tie as tie
 
 -- where the survey passes its checks, and where the word does
-abbrev start : tie.After-checked → tie.Start
+abbrev start : tie.After-survey-size → tie.Start
 start c = c .before .before .before
 
 opens : (c : tie.After-counted)
@@ -26,7 +29,7 @@ opens : (c : tie.After-counted)
     × (c .counted .given .0 .0 ≡ size (digits (start (c .before .before) .args .radices .now)))
 opens c =
     let a = start (c .before .before) .args in
-    checked-through (a .radices .now) (a .capacity) _ (c .before .before .checked .ensures) _ (c .counted .given .1)
+    survey-call-given (a .radices .now) (a .capacity) _ (sym (c .before .before .survey-size .ensures) ∙ ap countedAs (c .counted .given .1))
 
 abbrev surveyed : tie.After-ranked → tie.After-counted
 surveyed c = c .before .before .before .before
@@ -44,8 +47,8 @@ ranks c =
 few : (c : tie.After-ranked) → length (begun c .args .radices .now) ≤ 48
 few c = few-digits (begun c .args .radices .now) _ (opens (surveyed c) .0)
 
-checked-requires : tie.Need-checked-requires
-checked-requires c κs = search needs
+survey-size-requires : tie.Need-survey-size-requires
+survey-size-requires c κs = search needs
 
 enum-known-counted : tie.Need-enum-known-counted
 enum-known-counted c = search needs
@@ -61,7 +64,7 @@ returns c =
     let told = c .before in
     let a = start (told .before .before) .args in
     resuming-refused (walkAs (a .self)) (a .radices .now) (a .capacity) (a .word .now) _
-    (checked-on (a .radices .now) (a .capacity) _ (told .before .before .checked .ensures) _ _ _ (told .enum-told .given .1) (c .number .ensures))
+    (survey-passed-on (a .radices .now) (a .capacity) _ _ _ _ (told .before .before .survey-size .ensures) (told .enum-told .given .1) (c .number .ensures))
 
 rank-requires : tie.Need-rank-requires
 rank-requires c κs = search needs
@@ -103,48 +106,48 @@ reversed-requires-2 : tie.Need-reversed-requires-2
 reversed-requires-2 c κs = search needs
 
 -- once the arrays are made
-abbrev at : tie.After-reversed2 → tie.After-ranked
-at c = c .before .before .before .before .before
+abbrev ranked : tie.After-reversed2 → tie.After-ranked
+ranked c = c .before .before .before .before .before
 
 made : (c : tie.After-reversed2)
-    → Resumable (begun (at c) .args .radices .now) (begun (at c) .args .word .now) (begun (at c) .args .capacity)
-    (surveyed (at c) .counted .given .0 .0)
-    (at c .ranked .given .0 .0)
+    → Resumable (begun (ranked c) .args .radices .now) (begun (ranked c) .args .word .now) (begun (ranked c) .args .capacity)
+    (surveyed (ranked c) .counted .given .0 .0)
+    (ranked c .ranked .given .0 .0)
     (c .before .before .before .reversed .result)
     (movingAs (c .before .moving .result))
     (c .reversed2 .result)
 made c =
     record {
-      opens = opens (surveyed (at c)) .0;
-      whole = opens (surveyed (at c)) .1;
-      is-word = ranks (at c) .0;
-      ranks = ranks (at c) .1;
+      opens = opens (surveyed (ranked c)) .0;
+      whole = opens (surveyed (ranked c)) .1;
+      is-word = ranks (ranked c) .0;
+      ranks = ranks (ranked c) .1;
       radices-is = c .before .before .before .reversed .ensures;
       moving-is = c .before .moving .ensures;
       notches-is = c .reversed2 .ensures;
     }
 
 cast-unfilled : tie.Need-cast-unfilled
-cast-unfilled c = let most = few (at c) in omega arith
+cast-unfilled c = let most = few (ranked c) in omega arith
 
 cast-unfilled-2 : tie.Need-cast-unfilled-2
-cast-unfilled-2 c = let most = opens (surveyed (at c)) .0 .capacity in omega arith
+cast-unfilled-2 c = let most = opens (surveyed (ranked c)) .0 .capacity in omega arith
 
 unfilled-requires : tie.Need-unfilled-requires
 unfilled-requires c κs = stands-at _ _ _ _ _ _ _ _ (made c)
 
-sub-least : tie.Need-sub-least
-sub-least c = rank-within _ _ _ _ _ _ _ _ (made (c .before))
+sub-min : tie.Need-sub-min
+sub-min c = rank-within _ _ _ _ _ _ _ _ (made (c .before))
 
-least-requires : tie.Need-least-requires
-least-requires c κs = search needs
+min-requires : tie.Need-min-requires
+min-requires c κs = search needs
 
 cast-filled : tie.Need-cast-filled
-cast-filled c = let few = small-entries _ _ _ _ _ _ _ _ (made (c .before .before)) _ (c .least .ensures) in omega arith
+cast-filled c = let few = small-entries _ _ _ _ _ _ _ _ (made (c .before .before)) _ (c .min .ensures) in omega arith
 
 filled-requires : tie.Need-filled-requires
 filled-requires c κs =
-    resume-unfilled _ _ _ _ _ _ _ _ (made (c .before .before)) (walkAs (c .before .unfilled .result)) (c .before .unfilled .ensures) _ (c .least .ensures)
+    resume-unfilled _ _ _ _ _ _ _ _ (made (c .before .before)) (walkAs (c .before .unfilled .result)) (c .before .unfilled .ensures) _ (c .min .ensures)
 
 returns-3 : tie.Need-returns-3
 returns-3 c =
@@ -155,7 +158,7 @@ pub resume-spec : {M : Type 1} → statement M
 resume-spec =
     tie.close
     (tie.spec
-    checked-requires
+    survey-size-requires
     enum-known-counted
     enum-told
     number-requires
@@ -173,8 +176,8 @@ resume-spec =
     cast-unfilled
     cast-unfilled-2
     unfilled-requires
-    sub-least
-    least-requires
+    sub-min
+    min-requires
     cast-filled
     filled-requires
     returns-3)

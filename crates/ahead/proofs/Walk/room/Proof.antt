@@ -1,9 +1,9 @@
 -- `ahead::Walk::room` meets its contract. Assumes nothing.
-use Prim.Native.Nat.{_+_, _-_, _≤_, _<_}
 use native.Mathlib.Omega.{arith}
-use mathlib.Core.Path.{_≡_, sym, ap, _∙_}
+use mathlib.Core.Path.{sym}
 use lib.Seq.{length-take-le}
-use Rattle.ahead_theory.specs.InRange.{Arrays, range-says}
+use Rattle.ahead_theory.specs.States.{Arrays}
+use Rattle.ahead_theory.specs.InRange.{range-says}
 use Rattle.ahead.specs.Structs.{walkAs}
 use Rattle.ahead.proofs.Calls.{room-left, room-never}
 use borrow.Author.Needs.{needs}
@@ -17,7 +17,7 @@ wide-requires : tie.Need-wide-requires
 wide-requires c κs = search needs
 
 array-share-prefix-radices : tie.Need-array-share-prefix-radices
-array-share-prefix-radices c = let s = range-says _ (c .before .before .pre) in let a = lengths (c .before .before) .radices in let e = (c .before .wide) .ensures .0 in omega arith
+array-share-prefix-radices c = let s = range-says _ (c .before .before .pre) in let a = lengths (c .before .before) .directed .radices in let e = (c .before .wide) .ensures .0 in omega arith
 
 slice-aggregate-size : tie.Need-slice-aggregate-size
 slice-aggregate-size c = sym (length-take-le _ _ (array-share-prefix-radices (c .before)))

@@ -27,11 +27,11 @@ returns-3 c = run-unmoved _ _ _ (sym (c .before .before .before .before .before 
 room-requires : tie.Need-room-requires
 room-requires c κs = (sym (c .before .before .before .before .in-range .ensures) ∙ not-false _ (c .before .before .before .if1 .left))
 
-least-requires : tie.Need-least-requires
-least-requires c κs = search needs
+min-requires : tie.Need-min-requires
+min-requires c κs = search needs
 
 calls-requires : tie.Need-calls-requires
-calls-requires c κs = calls-ready _ _ _ _ _ (sym (c .before .before .before .before .before .before .before .in-range .ensures) ∙ not-false _ (c .before .before .before .before .before .before .if1 .left)) (neither (eqb (c .before .before .before .before .before .before .before .before .before .args .t) 0) (c .before .before .before .before .before .before .before .before .before .args .self .ended) (c .before .before .before .if3 .left) .1) (c .before .before .before .before .before .if2 .left) (c .before .before .room .ensures) (c .before .least .ensures)
+calls-requires c κs = calls-ready _ _ _ _ _ (sym (c .before .before .before .before .before .before .before .in-range .ensures) ∙ not-false _ (c .before .before .before .before .before .before .if1 .left)) (neither (eqb (c .before .before .before .before .before .before .before .before .before .args .t) 0) (c .before .before .before .before .before .before .before .before .before .args .self .ended) (c .before .before .before .if3 .left) .1) (c .before .before .before .before .before .if2 .left) (c .before .before .room .ensures) (c .before .min .ensures)
 
 outcome-requires : tie.Need-outcome-requires
 outcome-requires c κs = search needs
@@ -40,7 +40,7 @@ same-length : tie.Need-same-length
 same-length c = search needs
 
 returns-4 : tie.Need-returns-4
-returns-4 c = run-halted _ _ _ (sym (c .before .before .before .before .before .before .before .before .before .before .before .before .in-range .ensures) ∙ not-false _ (c .before .before .before .before .before .before .before .before .before .before .before .if1 .left)) (c .before .before .before .before .before .before .before .before .before .before .if2 .left) _ _ (c .before .before .before .before .before .before .before .room .ensures) (c .before .before .before .before .before .before .least .ensures) _ _ _ _ (c .before .before .before .before .calls .ensures) _ (c .outcome .ensures)
+returns-4 c = run-halted _ _ _ (sym (c .before .before .before .before .before .before .before .before .before .before .before .before .in-range .ensures) ∙ not-false _ (c .before .before .before .before .before .before .before .before .before .before .before .if1 .left)) (c .before .before .before .before .before .before .before .before .before .before .if2 .left) _ _ (c .before .before .before .before .before .before .before .room .ensures) (c .before .before .before .before .before .before .min .ensures) _ _ _ _ (c .before .before .before .before .calls .ensures) _ (c .outcome .ensures)
 
 pub run-spec : {M : Type 1} → statement M
 run-spec =
@@ -52,7 +52,7 @@ run-spec =
     unmoved-requires
     returns-3
     room-requires
-    least-requires
+    min-requires
     calls-requires
     outcome-requires
     same-length

@@ -5,14 +5,14 @@ use mathlib.Core.Path.{_≡_, sym, ap, _∙_}
 use mathlib.Core.Bool.{true}
 use borrow.Author.Needs.{needs}
 use borrow.Author.Tests.{not-true, not-false}
-use Rattle.ahead_theory.specs.States.{Producer, Walk, movingRadices, inRange}
+use Rattle.ahead_theory.specs.States.{Producer, Walk, movingRadices, inRange, Arrays}
 use Rattle.ahead_theory.specs.Work.{work}
 use Rattle.ahead_theory.specs.Calls.{once, twice}
-use Rattle.ahead_theory.specs.InRange.{Arrays, Ranged, range-says, Reached, reached-none}
-use Rattle.ahead.specs.Structs.{walkAs}
-use Rattle.ahead.specs.Stages.{assembled, movingOf}
-use Rattle.ahead.proofs.Ranges.{ranged-known, moving-count, moving-most, moving-numbered, moving-radices}
-use Rattle.ahead.proofs.Steps.{refused-faulty, already-over, reached-by, workable, entry-pos, movable, refused-dry, ends, moves-digit}
+use Rattle.ahead_theory.specs.InRange.{Ranged, range-says, Reached, reached-none}
+use Rattle.ahead.specs.Structs.{producerWith, walkAs}
+use Rattle.ahead.specs.Stages.{movingOf}
+use Rattle.ahead.proofs.Ranges.{ranged-known, moving-count, moving-most, moving-numbers, moving-radices}
+use Rattle.ahead.proofs.Steps.{refused-faulty, already-over, reached-by, workable, entry-pos, to-move, refused-dry, ends, moves-digit}
 use Rattle.ahead.proofs.Walk.step.Statement.{statement}
 use Rattle.ahead.proofs.Walk.step.Tie as tie
 
@@ -43,7 +43,7 @@ slice-aggregate-work-4 : tie.Need-slice-aggregate-work-4
 slice-aggregate-work-4 c = search needs
 
 abbrev going : tie.After-queue2 → tie.Else2
-going c = c .before .before .before .before .before .before .before .before .before .before
+going c = c .before .before .before .before .before .before .before .before .before .before .before
 
 abbrev walk : tie.After-queue2 → Walk
 walk c = walkAs (going c .before .before .before .args .self)
@@ -62,15 +62,15 @@ reached-0 c = reached-none (walk c) (in-parts c) (room c .counter) (room c .queu
 
 -- the radices that the work steps look up are those of the digits that move
 looked-up : (c : tie.After-queue2)
-    → movingOf (walk c .radices) (walk c .moving .digits) (walk c .moving .count) ≡ movingRadices (walk c)
-looked-up c = moving-radices (walk c) (room c) (ranged-known (walk c) (in-parts c))
+    → movingOf (walk c .directed .radices) (walk c .directed .moving .digits) (walk c .directed .moving .count) ≡ movingRadices (walk c)
+looked-up c = moving-radices (walk c .directed) (room c .directed) (ranged-known (walk c) (in-parts c))
 
 work-requires : tie.Need-work-requires
 work-requires c κs = workable (walk c) (in-parts c) (room c) 0 _ _ _ (reached-0 c) (omega arith)
 
 -- ---- the second
 abbrev left-1 : tie.After-work → Producer
-left-1 c = assembled (c .work .last .1 .1 .1 .1 .1 .0) (c .work .last .1 .1 .1 .1 .1 .1 .0) (c .work .result)
+left-1 c = producerWith (c .work .last .1 .1 .1 .1 .1 .0) (c .work .last .1 .1 .1 .1 .1 .1 .0) (c .work .result)
 
 once-is : (c : tie.After-work) → left-1 c ≡ once (walk (c .before))
 once-is c = c .work .ensures ∙ ap (λ l. work l (walk (c .before) .capacity) (walk (c .before) .producer)) (looked-up (c .before))
@@ -84,7 +84,7 @@ slice-aggregate-work-5 : tie.Need-slice-aggregate-work-5
 slice-aggregate-work-5 c = search needs
 
 slice-aggregate-work-6 : tie.Need-slice-aggregate-work-6
-slice-aggregate-work-6 c = sym (room (c .before .before .before .before .before) .moving)
+slice-aggregate-work-6 c = sym (room (c .before .before .before .before .before) .directed .moving)
 
 slice-aggregate-work-7 : tie.Need-slice-aggregate-work-7
 slice-aggregate-work-7 c = search needs
@@ -105,7 +105,7 @@ abbrev start : tie.After-work2 → tie.After-queue2
 start c = first (c .before) .before
 
 abbrev left-2 : tie.After-work2 → Producer
-left-2 c = assembled (c .work2 .last .1 .1 .1 .1 .1 .0) (c .work2 .last .1 .1 .1 .1 .1 .1 .0) (c .work2 .result)
+left-2 c = producerWith (c .work2 .last .1 .1 .1 .1 .1 .0) (c .work2 .last .1 .1 .1 .1 .1 .1 .0) (c .work2 .result)
 
 second-is : (c : tie.After-work2)
     → left-2 c ≡ work (movingRadices (walk (start c))) (walk (start c) .capacity) (left-1 (first (c .before)))
@@ -134,16 +134,16 @@ returns-3 c =
 array-read-k : tie.Need-array-read-k
 array-read-k c = search needs
 
-shifted-requires : tie.Need-shifted-requires
-shifted-requires c κs = search needs
-
 sub-if4 : tie.Need-sub-if4
 sub-if4 c = search needs
+
+shifted-requires : tie.Need-shifted-requires
+shifted-requires c κs = search needs
 
 add-if4 : tie.Need-add-if4
 add-if4 c =
     let begun = start (worked (c .before .before .before)) in
-    let few = moving-most (walk begun) (room begun) (ranged-known (walk begun) (in-parts begun)) in
+    let few = moving-most (walk begun .directed) (room begun .directed) (ranged-known (walk begun) (in-parts begun)) in
     omega arith
 
 end-requires : tie.Need-end-requires
@@ -151,11 +151,12 @@ end-requires c κs = search needs
 
 returns-4 : tie.Need-returns-4
 returns-4 c =
-    let taken = c .before .before .before in
-    let done = worked (taken .before .before) in
+    let taken = c .before .before in
+    let some = taken .before .before in
+    let done = worked (some .before) in
     let on = going (start done) in
     c .end .ensures
-    ∙ ends _ (tested (on .before)) (on .if2 .left) _ _ _ (twice-is done) (taken .before .if3 .left) _
+    ∙ ends _ (tested (on .before)) (on .if2 .left) _ _ _ (twice-is done) (some .if3 .left) _
     (taken .shifted .ensures)
     (c .before .if4 .taken)
 
@@ -164,7 +165,7 @@ abbrev taken : tie.Else4 → tie.After-work2
 taken c = worked (c .before .before .before .before)
 
 slice-aggregate-digit-at : tie.Need-slice-aggregate-digit-at
-slice-aggregate-digit-at c = sym (room (start (taken (c .before))) .moving)
+slice-aggregate-digit-at c = sym (room (start (taken (c .before))) .directed .moving)
 
 digit-at-requires : tie.Need-digit-at-requires
 digit-at-requires c κs =
@@ -173,15 +174,15 @@ digit-at-requires c κs =
     let begun = start done in
     let known = ranged-known (walk begun) (in-parts begun) in
     let (low, high) = entry-pos _ (in-parts begun) (room begun) 2 _ _ _ (reached-2 done) (other .before .before .before .if3 .left) in
-    let many = moving-count (walk begun) (room begun) known in
+    let many = moving-count (walk begun .directed) (room begun .directed) known in
     let not-last = other .if4 .left in
-    (moving-numbered (walk begun) (room begun) known, low, omega arith)
+    (moving-numbers (walk begun .directed) (room begun .directed) known, low, omega arith)
 
 advance-requires : tie.Need-advance-requires
 advance-requires c κs =
     let other = c .before .before in
     let done = taken other in
-    movable _ (in-parts (start done)) (room (start done)) 2 _ _ _ (reached-2 done) (other .before .before .before .if3 .left)
+    to-move _ (in-parts (start done)) (room (start done)) 2 _ _ _ (reached-2 done) (other .before .before .before .if3 .left)
     (other .if4 .left)
     _
     (c .digit-at .ensures)
@@ -190,11 +191,11 @@ returns-5 : tie.Need-returns-5
 returns-5 c =
     let named = c .before in
     let other = named .before .before in
-    let taken-out = other .before .before in
+    let taken-out = other .before in
     let done = taken other in
     let on = going (start done) in
     c .advance .ensures
-    ∙ moves-digit _ (tested (on .before)) (on .if2 .left) _ _ _ (twice-is done) (taken-out .before .if3 .left) _
+    ∙ moves-digit _ (tested (on .before)) (on .if2 .left) _ _ _ (twice-is done) (taken-out .before .before .if3 .left) _
     (taken-out .shifted .ensures)
     (other .if4 .left)
     _
@@ -219,8 +220,8 @@ step-spec =
     work-requires-2
     returns-3
     array-read-k
-    shifted-requires
     sub-if4
+    shifted-requires
     add-if4
     end-requires
     returns-4

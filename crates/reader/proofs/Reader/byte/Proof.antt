@@ -1,4 +1,4 @@
--- `text::Reader::byte` meets its contract: a field has room for three bytes. Assumes nothing.
+-- `reader::Reader::byte` meets its contract: a field has room for three bytes. Assumes nothing.
 use borrow.Author.Needs.{needs}
 use borrow.Author.Tests.{lt-ltb}
 use mathlib.Core.Path.{refl, sym, _∙_}

@@ -1,4 +1,4 @@
--- `text::Reader::end_field` meets its contract: a field is a count or it is not. Assumes nothing.
+-- `reader::Reader::end_field` meets its contract: a field is a count or it is not. Assumes nothing.
 use mathlib.Core.Path.{_≡_, sym, ap, _∙_}
 use native.Mathlib.Omega.{arith}
 use borrow.Author.Needs.{needs}

@@ -1,4 +1,4 @@
--- `text::Reader::end_line` meets its contract: a line without a byte has no count. Assumes nothing.
+-- `reader::Reader::end_line` meets its contract: a line without a byte has no count. Assumes nothing.
 use mathlib.Core.Path.{sym, ap, _∙_}
 use mathlib.Core.Bool.{cond}
 use borrow.Author.Needs.{needs}

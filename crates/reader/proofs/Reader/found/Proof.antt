@@ -1,6 +1,6 @@
--- `text::Reader::found` meets its contract: 49 counts are kept at the most. Assumes nothing.
+-- `reader::Reader::found` meets its contract: 49 counts are kept at the most. Assumes nothing.
 use borrow.Author.Needs.{needs}
-use Rattle.reader.proofs.Readings.{found-many, found-few}
+use Rattle.reader.proofs.Readings.{found-kept}
 use Rattle.reader.proofs.Reader.found.Statement.{statement}
 use Rattle.reader.proofs.Reader.found.Tie as tie
 
@@ -13,20 +13,17 @@ enum-told-2 c = search needs
 enum-told-3 : tie.Need-enum-told-3
 enum-told-3 c = search needs
 
-returns : tie.Need-returns
-returns c = found-many _ _ (c .before .enum-told3 .given .1) (c .if1 .taken)
+up-to-requires : tie.Need-up-to-requires
+up-to-requires c κs = search needs
 
-cast-t6 : tie.Need-cast-t6
-cast-t6 c = search needs
+returns : tie.Need-returns
+returns c = search needs
 
 returns-2 : tie.Need-returns-2
 returns-2 c = search needs
 
 returns-3 : tie.Need-returns-3
-returns-3 c = search needs
-
-returns-4 : tie.Need-returns-4
-returns-4 c = found-few _ _ (c .before .enum-told3 .given .1) (c .if1 .left)
+returns-3 c = found-kept _ _ _ (c .before .enum-told3 .given .1) (c .up-to .ensures)
 
 pub found-spec : {M : Type 1} → statement M
-found-spec = tie.close (tie.spec enum-told enum-told-2 enum-told-3 returns cast-t6 returns-2 returns-3 returns-4)
+found-spec = tie.close (tie.spec enum-told enum-told-2 enum-told-3 up-to-requires returns returns-2 returns-3)

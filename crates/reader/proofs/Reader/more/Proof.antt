@@ -1,4 +1,4 @@
--- `text::Reader::more` meets its contract: a newline, a space or a byte of a field. Assumes nothing.
+-- `reader::Reader::more` meets its contract: a newline, a space or a byte of a field. Assumes nothing.
 use mathlib.Core.Path.{_∙_}
 use borrow.Author.Needs.{needs}
 use Rattle.reader.proofs.Readings.{newline-read, space-read, other-read}

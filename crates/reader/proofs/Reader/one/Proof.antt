@@ -1,4 +1,4 @@
--- `text::Reader::one` meets its contract: a byte counts only while the line goes on. Assumes nothing.
+-- `reader::Reader::one` meets its contract: a byte counts only while the line goes on. Assumes nothing.
 use mathlib.Core.Path.{sym, ap, _∙_}
 use borrow.Author.Needs.{needs}
 use Rattle.reader.specs.Readers.{readIn}

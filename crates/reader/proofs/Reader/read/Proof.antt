@@ -1,4 +1,4 @@
--- `text::Reader::read` meets its contract: what is left to read is what follows the first i bytes. Assumes nothing.
+-- `reader::Reader::read` meets its contract: what is left to read is what follows the first i bytes. Assumes nothing.
 use Prim.Native.Nat.{ℕ, suc, _+_, _-_, _≤_, _<_}
 use mathlib.Core.Path.{_≡_, refl, sym, ap, _∙_}
 use mathlib.Core.List.{List}

@@ -7,9 +7,8 @@ use native.Mathlib.Omega.{arith}
 use borrow.Author.Needs.{needs}
 use lib.ListN.{getD, set}
 use Rattle.gray_theory.specs.Words.{even}
-use Rattle.towers_theory.specs.States.{Towers}
+use Rattle.towers_theory.specs.States.{Towers, Arrays}
 use Rattle.towers_theory.specs.Calls.{pegAfter}
-use Rattle.towers_theory.specs.InRange.{Arrays}
 use Rattle.towers.specs.Structs.{towersAs}
 use Rattle.towers.proofs.Steps.{survey-right, count-fits, number-held, radix-positive, turn-below, peg-within}
 use Rattle.towers.proofs.Steps.{digit-fits, pegs-stored, disk-moved}

@@ -5,13 +5,13 @@ use native.Mathlib.Omega.{arith}
 use borrow.Author.Needs.{needs}
 use Rattle.towers.specs.Structs.{towersAs}
 use Rattle.towers.specs.Stages.{stateOf}
-use Rattle.towers.proofs.Runs.{Going, begun, as-long, made-all, ended-there, again}
+use Rattle.towers.proofs.Runs.{RunSoFar, begun, as-long, made-all, ended-there, again}
 use Rattle.towers.proofs.Towers.calls.Statement.{statement}
 use Rattle.towers.proofs.Towers.calls.Tie as tie
 
 abbrev Inv-loop : tie.InvT-loop
 Inv-loop self m t out₀ radices moving digits word₀ turn₀ downs₀ pegs₀ k₀ out word turn downs pegs k =
-    Going m (towersAs self) t out₀
+    RunSoFar m (towersAs self) t out₀
     (stateOf (self .radices) (self .n) (self .moving .digits) (self .moving .count) word turn downs pegs)
     k
     out

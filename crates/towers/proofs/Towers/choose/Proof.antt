@@ -4,8 +4,7 @@ use mathlib.Core.Path.{sym}
 use native.Mathlib.Omega.{arith}
 use borrow.Author.Needs.{needs}
 use lib.Seq.{length-take-le}
-use Rattle.towers_theory.specs.States.{Towers}
-use Rattle.towers_theory.specs.InRange.{Arrays}
+use Rattle.towers_theory.specs.States.{Towers, Arrays}
 use Rattle.towers.specs.Structs.{towersAs}
 use Rattle.towers.proofs.Steps.{survey-right, count-fits, radix-positive, first-disk, pair-disks}
 use Rattle.towers.proofs.Steps.{chooses-on-pair, chooses-on-ring}
@@ -47,7 +46,7 @@ leading c = c .before .before .before .before .before .before .before .before
 array-share-prefix-digits : tie.Need-array-share-prefix-digits
 array-share-prefix-digits c =
     let counted = leading c .before in
-    let long = lengths (start counted) .moving in
+    let long = lengths (start counted) .directed .moving in
     let most = fits counted in
     omega arith
 

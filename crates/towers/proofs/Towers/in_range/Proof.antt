@@ -3,8 +3,7 @@ use mathlib.Core.Path.{_≡_, sym, _∙_}
 use mathlib.Core.Bool.{true}
 use borrow.Author.Needs.{needs}
 use borrow.Author.Tests.{not-true, not-false}
-use Rattle.towers_theory.specs.States.{Towers}
-use Rattle.towers_theory.specs.InRange.{Arrays}
+use Rattle.towers_theory.specs.States.{Towers, Arrays}
 use Rattle.towers.specs.Structs.{towersAs}
 use Rattle.towers.specs.Stages.{surveyFits}
 use Rattle.towers.proofs.Ranges.{fits-says, survey-wrong, pairs-tested, ring-tested}

@@ -1,10 +1,9 @@
 -- `towers::Towers::last_radix` meets its contract. Assumes nothing.
-use Prim.Native.Nat.{suc, _-_, _<_}
+use Prim.Native.Nat.{suc, _-_}
 use mathlib.Core.Path.{_≡_}
 use native.Mathlib.Omega.{arith}
 use borrow.Author.Needs.{needs}
-use Rattle.towers_theory.specs.States.{Towers}
-use Rattle.towers_theory.specs.InRange.{Arrays}
+use Rattle.towers_theory.specs.States.{Towers, Arrays}
 use Rattle.towers.specs.Structs.{towersAs}
 use Rattle.towers.proofs.Ranges.{Fits, fits-says, digit-of, digit-at, last-none, last-at}
 use Rattle.towers.proofs.Towers.last_radix.Statement.{statement}
@@ -42,7 +41,7 @@ sub-index-at c = omega arith
 abbrev counted : tie.After-digits2 → tie.After-wide
 counted c = c .before .before .before .before .before .before
 
-last : (c : tie.After-digits2) → suc (counted c .wide .result - 1) ≡ state (start (counted c)) .moving .count
+last : (c : tie.After-digits2) → suc (counted c .wide .result - 1) ≡ state (start (counted c)) .directed .moving .count
 last c = let same = counted c .wide .ensures .0 in omega arith
 
 index-at-requires : tie.Need-index-at-requires

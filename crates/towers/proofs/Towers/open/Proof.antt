@@ -10,9 +10,9 @@ use Rattle.digit.specs.Moving.{movingAs}
 use Rattle.gray.specs.Enums.{countedAs}
 use Rattle.gray_theory.specs.Refusals.{accepted}
 use Rattle.gray.specs.Passing.{passed-on}
-use Rattle.towers_theory.specs.InRange.{Arrays}
+use Rattle.towers_theory.specs.States.{Arrays}
 use Rattle.towers.specs.Structs.{towersAs}
-use Rattle.towers.proofs.Ranges.{opening-refused, array-room, fresh-fits, counts-refused, opening-given}
+use Rattle.towers.proofs.Ranges.{CountsTested, opening-refused, array-room, fresh-fits, counts-tested, counts-refused, opening-given}
 use Rattle.towers.proofs.Towers.open.Statement.{statement}
 use Rattle.towers.proofs.Towers.open.Tie as tie
 
@@ -81,39 +81,28 @@ radices-play-requires c κs = search needs
 lengths : (c : tie.After-fresh) → Arrays (towersAs (c .fresh .result))
 lengths c = search needs
 
-returns-2 : tie.Need-returns-2
-returns-2 c =
-    let tested = c .before in
-    let told = tested .before in
+tested : (c : tie.After-radices-play)
+    → CountsTested (made (c .before .before) .before .before .before .before .before .args .radices .now)
+    (towersAs (c .before .before .fresh .result))
+    (c .radices-play .result)
+tested c =
+    let told = c .before in
     let new = told .before in
-    counts-refused _ _ (size-is (made new .before)) _ (made new .reversed .ensures) (movingAs (found new .moving .result))
+    counts-tested _ _ (size-is (made new .before)) _ (made new .reversed .ensures) (movingAs (found new .moving .result))
     (found new .moving .ensures)
     (towersAs (new .fresh .result))
     (new .fresh .ensures)
-    _
     (lengths new)
     _
     (told .last-radix .ensures)
     _
-    (tested .radices-play .ensures)
-    (c .if1 .taken)
+    (c .radices-play .ensures)
+
+returns-2 : tie.Need-returns-2
+returns-2 c = counts-refused _ _ _ _ (tested (c .before)) (c .if1 .taken)
 
 returns-3 : tie.Need-returns-3
-returns-3 c =
-    let tested = c .before in
-    let told = tested .before in
-    let new = told .before in
-    opening-given _ _ (size-is (made new .before)) _ (made new .reversed .ensures) (movingAs (found new .moving .result))
-    (found new .moving .ensures)
-    (towersAs (new .fresh .result))
-    (new .fresh .ensures)
-    _
-    (lengths new)
-    _
-    (told .last-radix .ensures)
-    _
-    (tested .radices-play .ensures)
-    (c .if1 .left)
+returns-3 c = opening-given _ _ _ _ (tested (c .before)) (c .if1 .left)
 
 pub open-spec : {M : Type 1} → statement M
 open-spec =

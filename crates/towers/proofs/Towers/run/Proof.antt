@@ -4,8 +4,7 @@ use mathlib.Core.Bool.{true}
 use borrow.Author.Needs.{needs}
 use borrow.Author.Tests.{not-true, not-false}
 use Rattle.gray_theory.specs.SingleCalls.{run-out-of-range-is-refused, run-into-shorter-memory-is-refused}
-use Rattle.towers_theory.specs.States.{Towers, inRange}
-use Rattle.towers_theory.specs.InRange.{Arrays}
+use Rattle.towers_theory.specs.States.{Towers, inRange, Arrays}
 use Rattle.towers.specs.Structs.{towersAs}
 use Rattle.towers.proofs.Steps.{survey-right}
 use Rattle.towers.proofs.Towers.run.Statement.{statement}

@@ -1,13 +1,10 @@
 -- `towers::Towers::survey_fits` meets its contract: each stage's test is a part of the range rule. Assumes nothing.
-use Prim.Native.Nat.{_≤_}
-use mathlib.Core.Path.{_≡_, sym, ap, _∙_}
+use mathlib.Core.Path.{sym, ap, _∙_}
 use native.Mathlib.Omega.{arith}
 use borrow.Author.Needs.{needs}
-use lib.ListN.{length}
 use lib.Seq.{length-take-le}
 use Rattle.gray.specs.Enums.{countedAs}
-use Rattle.towers_theory.specs.States.{Towers}
-use Rattle.towers_theory.specs.InRange.{Arrays}
+use Rattle.towers_theory.specs.States.{Towers, Arrays}
 use Rattle.towers.specs.Structs.{towersAs}
 use Rattle.towers.proofs.Ranges.{digits-over, radices-refused, moving-decides}
 use Rattle.towers.proofs.Towers.survey_fits.Statement.{statement}
@@ -35,7 +32,7 @@ wide-requires c κs = search needs
 array-share-prefix-radices : tie.Need-array-share-prefix-radices
 array-share-prefix-radices c =
     let here = c .before in
-    let long = lengths (start here) .radices in
+    let long = lengths (start here) .directed .radices in
     let most = here .before .if1 .left in
     let same = here .wide .ensures .0 in
     omega arith
