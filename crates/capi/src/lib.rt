@@ -29,7 +29,7 @@ fn of_counted(counted: Counted) -> u64
     ensures { λ r. ⌜ r ≡ encoded (countedAs counted) ⌝ }
 {
     match counted {
-        Counted::Size(n) => n,
+        Counted::Size(total) => total,
         Counted::Refused(k) => minus(k),
     }
 }

@@ -385,7 +385,7 @@ fn read_bytes(text: &[u8], bytes: &mut [u8]) -> Read
 fn size_case(radices: &[u8]) {
     let counted = gray::size(radices);
     match counted {
-        Counted::Size(n) => print_number(b": ", n),
+        Counted::Size(total) => print_number(b": ", total),
         Counted::Refused(k) => print_refused(k),
     }
     print_byte(b"; number ", counted.number());

@@ -12,6 +12,11 @@ pub data Engine : Type 0 where
   buffered : Walk → Engine
   disks : Towers → Engine
 
+-- the word (setting) in its array, digit 1 first
+abbrev pub wordOf : Engine → List ℕ
+wordOf (buffered w) = w .directed .word
+wordOf (disks s) = s .directed .word
+
 -- what a call of the one engine hands back, as a call of either
 abbrev pub handedAs : {S A : Type 0} → (S → Engine) → Handed S A → Handed Engine A
 handedAs which h = record { state = which (h .state); answer = h .answer }

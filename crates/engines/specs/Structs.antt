@@ -16,10 +16,6 @@ use Rattle.engines.specs.declared.Ran.{Ran}
 abbrev pub engineAs : Engine → either.Engine
 engineAs e = cond (e .disks) (either.disks (towersAs (e .towers))) (either.buffered (walkAs (e .walk)))
 
--- the word that it holds (its setting), digit 1 first
-abbrev pub wordOf : Engine → List ℕ
-wordOf e = cond (e .disks) (e .towers .word) (e .walk .word)
-
 -- what the calls return
 abbrev pub steppedAs : Stepped → Handed either.Engine Event
 steppedAs r = record { state = engineAs (r .engine); answer = steppingAs (r .answer) }

@@ -7,8 +7,8 @@ use towers::Towers;
 ghost use mathlib.Core.Path.{_≡_};
 ghost use Rattle.ahead.specs.Structs.{walkAs};
 ghost use Rattle.towers.specs.Structs.{towersAs};
-ghost use Rattle.engines.specs.Engines.{buffered, disks, stepOf, runOf};
-ghost use Rattle.engines.specs.Structs.{engineAs, steppedAs, ranAs, wordOf};
+ghost use Rattle.engines.specs.Engines.{buffered, disks, wordOf, stepOf, runOf};
+ghost use Rattle.engines.specs.Structs.{engineAs, steppedAs, ranAs};
 
 // The disk engine if `disks`, and else the buffered one; the other's state plays no part. An enum with a state in each variant
 // would say so by itself, but the borrow checker does not cover one that holds arrays.
@@ -51,7 +51,7 @@ impl Engine {
 
     // The word (the setting), digit 1 first.
     pub fn setting(self) -> [u8; DIGITS]
-        ensures { λ r. ⌜ r ≡ wordOf self ⌝ }
+        ensures { λ r. ⌜ r ≡ wordOf (engineAs self) ⌝ }
     {
         let walk = self.walk;
         let towers = self.towers;

@@ -1,4 +1,4 @@
--- What a call answers in the papers' terms, and what a writer leaves in the memory that it is lent.
+-- What a call answers in document 01's terms, and what a writer leaves in the memory that it is lent.
 use Prim.Native.Nat.{ℕ}
 use mathlib.Core.Path.{_≡_}
 use mathlib.Core.Bool.{Bool, true, false, cond}

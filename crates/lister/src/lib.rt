@@ -89,7 +89,7 @@ fn wide(x: u8) -> usize
     x as usize
 }
 
-fn less(a: usize, b: usize) -> usize
+fn min(a: usize, b: usize) -> usize
     ensures { λ r. ⌜ r ≡ a - (a - b) ⌝ }
 {
     if a < b { a } else { b }
@@ -145,7 +145,7 @@ impl Window {
                 at: self.at,
             };
         }
-        let words = less(q - self.skip, self.left);
+        let words = min(q - self.skip, self.left);
         let length = words * n;
         Window {
             skip: 0,
@@ -171,7 +171,7 @@ fn row(
     requires { ⌜ RowRoom (now word) n m skip left (now out) start ⌝ }
     ensures { λ _. ⌜ now (out .exit) ≡ laid start (take (n - 3) (now (word .entry)) ++ (a ∷ b ∷ [])) (window skip left (listing down (m ∷ []))) (now (out .entry)) ⌝ }
 {
-    let end = less(m, skip + left);
+    let end = min(m, skip + left);
     let mut at = start;
     let mut u = skip;
     while u < end {

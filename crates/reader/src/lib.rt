@@ -2,7 +2,7 @@
 
 use gray::DIGITS;
 ghost use mathlib.Core.Path.{_≡_};
-ghost use Prim.Native.Nat.{_≤_, min};
+ghost use Prim.Native.Nat.{_≤_, min as minOf};
 ghost use lib.ListN.{length};
 ghost use Rattle.text_theory.specs.Decimals.{digitOf};
 ghost use Rattle.reader.specs.Parsing.{numberOf};
@@ -74,7 +74,7 @@ pub fn number(bytes: &[u8]) -> Parsed
         if 9 < d {
             return Parsed::Unread;
         }
-        if (18446744073709551615 - d) / 10 < value {
+        if (u64::MAX - d) / 10 < value {
             return Parsed::Unread;
         }
         value = value * 10 + d;
@@ -83,8 +83,8 @@ pub fn number(bytes: &[u8]) -> Parsed
     Parsed::Number(value)
 }
 
-fn up_to(most: usize, n: u8) -> usize
-    ensures { λ r. ⌜ r ≡ min n most ⌝ }
+fn min(most: usize, n: u8) -> usize
+    ensures { λ r. ⌜ r ≡ minOf n most ⌝ }
 {
     if most < n as usize {
         return most;
@@ -161,7 +161,7 @@ impl Reader {
     {
         let field = self.field;
         let digits = self.digits;
-        let k = up_to(3, digits);
+        let k = min(3, digits);
         let counted = as_count(&field[..k]);
         let Count::Is(value) = counted else {
             return self.in_phase(Phase::Unread);
@@ -249,7 +249,7 @@ impl Reader {
         match phase {
             Phase::More => Found::More,
             Phase::Unread => Found::Unread,
-            Phase::Ended => Found::Counts(up_to(KEPT, kept)),
+            Phase::Ended => Found::Counts(min(KEPT, kept)),
         }
     }
 }

@@ -7,7 +7,7 @@ use text_theory::Line;
 ghost use mathlib.Core.Path.{_≡_};
 ghost use mathlib.Core.Bool.{cond};
 ghost use mathlib.Core.List.{[], _++_};
-ghost use Prim.Native.Nat.{_+_, _≤_, min};
+ghost use Prim.Native.Nat.{_+_, _≤_, min as minOf};
 ghost use lib.ListN.{length, take};
 ghost use Rattle.gray_theory.specs.Answers.{Wrote};
 ghost use Rattle.gray.specs.Enums.{writtenAs};
@@ -19,8 +19,8 @@ ghost use Rattle.text.specs.Stages.{Put};
 // The most settings that are walked.
 const MOST: u64 = 4096;
 
-fn up_to(most: usize, n: u8) -> usize
-    ensures { λ r. ⌜ r ≡ min n most ⌝ }
+fn min(most: usize, n: u8) -> usize
+    ensures { λ r. ⌜ r ≡ minOf n most ⌝ }
 {
     if most < n as usize {
         return most;
@@ -217,7 +217,7 @@ pub fn write_line(line: Line, word: [u8; DIGITS], n: u8, out: &mut [u8]) -> Writ
     ensures { λ r. ⌜ Wrote (lineCall line (take n word)) (writtenAs r) (now (out .entry)) (now (out .exit)) ⌝ }
 {
     let mut text = [0u8; 256];
-    let length = put_line(line, word, up_to(DIGITS, n), &mut text);
+    let length = put_line(line, word, min(DIGITS, n), &mut text);
     if out.len() < length {
         return Written::Refused(9);
     }

@@ -239,7 +239,7 @@ fn move_digit(radices: &[u8], at: usize, word: &mut [u8], downs: &mut [bool]) ->
     digit::move_byte(at as u8 + 1, down)
 }
 
-// One call of a run, in lent arrays. (One search for both games, and one move, would take half as long again.)
+// One call of a run, in lent arrays. (One search for both games, and one move, would take 1.5 times as long.)
 fn play(
     m: u8,
     radices: &[u8],

@@ -15,14 +15,14 @@ Inv-loop word n a b m down skip left out₀ start end at₀ u₀ out at u =
 abbrev μ-loop : tie.MeasureT-loop
 μ-loop word n a b m down skip left out₀ start end at₀ u₀ out at u = end - u
 
-add-less : tie.Need-add-less Inv-loop μ-loop
-add-less c = omega arith
+add-min : tie.Need-add-min Inv-loop μ-loop
+add-min c = omega arith
 
-less-requires : tie.Need-less-requires Inv-loop μ-loop
-less-requires c κs = search needs
+min-requires : tie.Need-min-requires Inv-loop μ-loop
+min-requires c κs = search needs
 
 loop-holds : tie.Need-loop-holds Inv-loop μ-loop
-loop-holds c = row-begun _ _ _ _ _ _ _ _ _ _ _ (c .before .before .pre) (c .less .ensures)
+loop-holds c = row-begun _ _ _ _ _ _ _ _ _ _ _ (c .before .before .pre) (c .min .ensures)
 
 notch-requires : tie.Need-notch-requires Inv-loop μ-loop
 notch-requires c κs = omega arith
@@ -32,7 +32,7 @@ room : (c : tie.In-loop Inv-loop μ-loop) →
     c .before .loop .at + c .before .before .before .before .args .n ≤ length (c .before .loop .out)
 room c =
     let begin = c .before .before in
-    row-room _ _ _ _ _ _ _ _ _ _ _ (begin .before .before .pre) (begin .less .ensures) _ _ _ (c .before .loop .inv)
+    row-room _ _ _ _ _ _ _ _ _ _ _ (begin .before .before .pre) (begin .min .ensures) _ _ _ (c .before .loop .inv)
     (c .loop-test .taken)
 
 put-word-requires : tie.Need-put-word-requires Inv-loop μ-loop
@@ -56,7 +56,7 @@ loop-again c =
     let wrote = c .before .before in
     let turn = wrote .before .before .before in
     let begin = turn .before .before in
-    row-again _ _ _ _ _ _ _ _ _ _ _ (begin .before .before .pre) (begin .less .ensures) _ _ _ (turn .before .loop .inv) _ _
+    row-again _ _ _ _ _ _ _ _ _ _ _ (begin .before .before .pre) (begin .min .ensures) _ _ _ (turn .before .loop .inv) _ _
     (turn .loop-test .taken)
     (wrote .before .before .notch .ensures)
     (wrote .put-word .ensures)
@@ -67,7 +67,7 @@ same-length c = c .before .loop .inv .same
 returns : tie.Need-returns Inv-loop μ-loop
 returns c =
     let begin = c .before .before in
-    row-ended _ _ _ _ _ _ _ _ _ _ _ (begin .before .before .pre) (begin .less .ensures) _ _ _ (c .before .loop .inv)
+    row-ended _ _ _ _ _ _ _ _ _ _ _ (begin .before .before .pre) (begin .min .ensures) _ _ _ (c .before .loop .inv)
     (c .loop-test .left)
 
 pub row-spec : {M : Type 1} → statement M
@@ -76,8 +76,8 @@ row-spec =
     (tie.spec
     Inv-loop
     μ-loop
-    add-less
-    less-requires
+    add-min
+    min-requires
     loop-holds
     notch-requires
     put-word-requires

@@ -11,8 +11,8 @@ use Rattle.text.proofs.Putting.{same-text, shown, line-refused, line-wr
 use Rattle.text.proofs.write_line.Statement.{statement}
 use Rattle.text.proofs.write_line.Tie as tie
 
-up-to-requires : tie.Need-up-to-requires
-up-to-requires c κs = search needs
+min-requires : tie.Need-min-requires
+min-requires c κs = search needs
 
 slice-aggregate-put-line : tie.Need-slice-aggregate-put-line
 slice-aggregate-put-line c = search needs
@@ -31,7 +31,7 @@ made c =
     let start = c .before .before .before .before in
     let args = start .args in
     same-text
-    (ap (λ k. lineText (args .line) (take k (args .word))) (c .before .before .up-to .ensures)
+    (ap (λ k. lineText (args .line) (take k (args .word))) (c .before .before .min .ensures)
     ∙ ap (lineText (args .line)) (shown (args .n) (args .word) (long start)))
     (c .put-line .ensures .0)
 
@@ -64,7 +64,7 @@ pub write-line-spec : {M : Type 1} → statement M
 write-line-spec =
     tie.close
     (tie.spec
-    up-to-requires
+    min-requires
     slice-aggregate-put-line
     put-line-requires
     returns

@@ -14,21 +14,21 @@ room-parted words left n h =
     sym (add-mul words (left - words) n) ∙ ap (λ (k : ℕ). k * n) whole
 
 -- of the room that this window has
-parted : (c : tie.After-less) →
+parted : (c : tie.After-min) →
     let given = c .before .before .before .before .args in
-    c .less .result * given .n + (given .self .left - c .less .result) * given .n ≡ given .self .left * given .n
+    c .min .result * given .n + (given .self .left - c .min .result) * given .n ≡ given .self .left * given .n
 parted c =
     let given = c .before .before .before .before .args in
-    room-parted (c .less .result) (given .self .left) (given .n) (omega arith)
+    room-parted (c .min .result) (given .self .left) (given .n) (omega arith)
 
 returns : tie.Need-returns
 returns c = search needs
 
-sub-less : tie.Need-sub-less
-sub-less c = search needs
+sub-min : tie.Need-sub-min
+sub-min c = search needs
 
-less-requires : tie.Need-less-requires
-less-requires c κs = search needs
+min-requires : tie.Need-min-requires
+min-requires c κs = search needs
 
 mul-length : tie.Need-mul-length
 mul-length c = omega (arith, parted c)
@@ -43,4 +43,4 @@ returns-2 : tie.Need-returns-2
 returns-2 c = (omega arith, omega arith, omega (arith, parted (c .before .before)))
 
 pub past-spec : {M : Type 1} → statement M
-past-spec = tie.close (tie.spec returns sub-less less-requires mul-length sub-t8 add-t9 returns-2)
+past-spec = tie.close (tie.spec returns sub-min min-requires mul-length sub-t8 add-t9 returns-2)

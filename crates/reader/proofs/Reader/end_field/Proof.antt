@@ -10,8 +10,8 @@ use Rattle.reader.proofs.Readings.{field-unread, field-counted}
 use Rattle.reader.proofs.Reader.end_field.Statement.{statement}
 use Rattle.reader.proofs.Reader.end_field.Tie as tie
 
-up-to-requires : tie.Need-up-to-requires
-up-to-requires c κs = search needs
+min-requires : tie.Need-min-requires
+min-requires c κs = search needs
 
 three : (c : tie.Start) → length (c .args .self .field) ≡ 3
 three c = search needs
@@ -29,7 +29,7 @@ as-count-requires c κs = let all = slice-aggregate-as-count c in omega arith
 says : (c : tie.After-as-count) → countOf (fieldOf (c .before .before .before .before .args .self)) ≡ c .as-count .result
 says c =
     let start = c .before .before .before .before in
-    ap (λ k. countOf (take k (start .args .self .field))) (sym (c .before .before .up-to .ensures)) ∙ sym (c .as-count .ensures)
+    ap (λ k. countOf (take k (start .args .self .field))) (sym (c .before .before .min .ensures)) ∙ sym (c .as-count .ensures)
 
 enum-known-counted : tie.Need-enum-known-counted
 enum-known-counted c = search needs
@@ -56,7 +56,7 @@ pub end-field-spec : {M : Type 1} → statement M
 end-field-spec =
     tie.close
     (tie.spec
-    up-to-requires
+    min-requires
     array-share-prefix-field
     slice-aggregate-as-count
     as-count-requires
