@@ -1,28 +1,47 @@
--- A line that is written fits the output.
-use Prim.Native.Nat.{ℕ, _≤_}
-use native.Mathlib.Omega.{arith}
+-- What the writing of a line says: one that is written fits the output, and one that is refused does not.
+use Prim.Native.Nat.{ℕ, _≤_, _<_}
 use mathlib.Core.Path.{_≡_, refl, sym, _∙_}
 use mathlib.Core.Bool.{Bool, true, false, cond}
-use mathlib.Core.List.{List}
-use borrow.Author.Tests.{ltb-false}
+use mathlib.Core.List.{List, _++_}
+use borrow.Author.Tests.{ltb-true, ltb-false}
 use lib.Dec.{ltb}
-use lib.ListN.{length}
-use Rattle.gray_theory.specs.Answers.{Answer, given, refused, byteCount, Wrote}
+use lib.ListN.{length, drop}
+use Rattle.gray_theory.specs.Answers.{Answer, given, refused, byteCount, outputAfter, Wrote}
 use Rattle.gray_theory.specs.Bools.{impossible}
 use Rattle.text_theory.specs.Lines.{lineText, lineCall}
 use Rattle.text_theory.specs.declared.Line.{Line}
 
-fits-with : (t : Bool) (room k : ℕ) (bytes : List ℕ) → ltb room (length bytes) ≡ t
-    → given k ≡ byteCount (cond t (refused 9) (given bytes))
-    → k ≤ room
-fits-with true room k bytes e so = impossible (cc)
-fits-with false room k bytes e so =
-    let same : k ≡ length bytes = cc in
-    omega (arith, ltb-false room (length bytes) e)
+pub record LineWritten (text before after : List ℕ) (k : ℕ) : Type 0 where
+  pub long : k ≡ length text
+  pub fits : length text ≤ length before
+  pub leaves : after ≡ text ++ drop (length text) before
 
-pub line-fits : (line : Line) (word : List ℕ) {before after : List ℕ} {answer : Answer ℕ} (k : ℕ) → Wrote (lineCall line word) answer before after
-    → answer ≡ given k
-    → k ≤ length before
-unfolding lineCall
-line-fits line word {before} k so is =
-    fits-with (ltb (length before) (length (lineText line word))) (length before) k (lineText line word) refl (sym is ∙ so .answers)
+written-with : (t : Bool) (text before after : List ℕ) (k : ℕ) → ltb (length before) (length text) ≡ t
+    → given k ≡ byteCount (cond t (refused 9) (given text))
+    → after ≡ outputAfter (cond t (refused 9) (given text)) before
+    → LineWritten text before after k
+written-with true text before after k e answers leaves = impossible (cc)
+written-with false text before after k e answers leaves =
+    record { long = cc; fits = ltb-false (length before) (length text) e; leaves = leaves }
+
+unwritten-with : (t : Bool) (text before after : List ℕ) (k : ℕ) → ltb (length before) (length text) ≡ t
+    → refused k ≡ byteCount (cond t (refused 9) (given text))
+    → after ≡ outputAfter (cond t (refused 9) (given text)) before
+    → (length before < length text) × (after ≡ before)
+unwritten-with true text before after k e answers leaves = (ltb-true (length before) (length text) e, leaves)
+unwritten-with false text before after k e answers leaves = impossible (cc)
+
+module _ (line : Line) (word before after : List ℕ) (answer : Answer ℕ) (wrote : Wrote (lineCall line word) answer before after) where
+  pub line-written : (k : ℕ) → answer ≡ given k → LineWritten (lineText line word) before after k
+  unfolding lineCall
+  line-written k e =
+      written-with (ltb (length before) (length (lineText line word))) (lineText line word) before after k refl
+      (sym e ∙ wrote .answers)
+      (wrote .leaves)
+
+  pub line-refused : (k : ℕ) → answer ≡ refused k → (length before < length (lineText line word)) × (after ≡ before)
+  unfolding lineCall
+  line-refused k e =
+      unwritten-with (ltb (length before) (length (lineText line word))) (lineText line word) before after k refl
+      (sym e ∙ wrote .answers)
+      (wrote .leaves)

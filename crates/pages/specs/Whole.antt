@@ -1,0 +1,47 @@
+-- What `walk` prints, from the bytes that it reads to the bytes that it writes.
+use Prim.Native.Nat.{ℕ, _≤_}
+use native.Mathlib.Omega.{arith}
+use mathlib.Core.Path.{_≡_, refl, sym, ap, _∙_}
+use mathlib.Core.List.{List, []}
+use lib.ListN.{take}
+use lib.Seq.{take-all}
+use Rattle.gray_theory.specs.Answers.{Answer, given, refused}
+use Rattle.gray_theory.specs.Calls.{sizeCall}
+use Rattle.gray_theory.specs.Refusals.{accepted}
+use Rattle.text_theory.specs.Surveys.{Input, counts, unread, inputAs}
+use Rattle.text_theory.specs.Lines.{lineText}
+use Rattle.text_theory.specs.Output.{surveyText, inputText, output}
+use Rattle.text_theory.specs.Kept.{kept-counts-answer-alike}
+use Rattle.reader.specs.Readers.{freshReader, read, readerInput, upTo49}
+use Rattle.reader.specs.Reading.{reader-reads-the-line}
+use Rattle.pages_theory.specs.Pages.{begun, HoldsLines, pagesText}
+use Rattle.pages_theory.specs.WalkLines.{first-line}
+use Rattle.pages_theory.specs.Printed.{pages-are-the-output}
+
+-- ---- more counts than are kept change no text
+kept-with : (cs : List ℕ) (a : Answer ℕ) → sizeCall cs ≡ a → inputText (counts (take 49 cs)) ≡ inputText (counts cs)
+unfolding inputText surveyText
+kept-with cs (given total) e =
+    let most = accepted cs total e .most in
+    ap (λ l. surveyText l (sizeCall l)) (take-all 49 cs (omega arith))
+kept-with cs (refused k) e =
+    let kept : sizeCall (take 49 cs) ≡ refused k = kept-counts-answer-alike cs ∙ e in
+    ap (surveyText (take 49 cs)) kept
+    ∙ ap (λ l. lineText l []) (first-line (take 49 cs) (refused k) kept ∙ sym (first-line cs (refused k) e))
+    ∙ sym (ap (surveyText cs) e)
+
+kept-text : (read : Input) → inputText (upTo49 read) ≡ inputText read
+kept-text unread = refl
+kept-text (counts cs) = kept-with cs (sizeCall cs) refl
+
+-- Whatever bytes come in, in whatever parts (`parts-read-as-one`), the pages that are filled for them, one after the other, are
+-- the output that document 01 has for them: at any page size that holds every line, `walk`'s 4,096 bytes too
+-- (`wide-pages-hold-every-line`).
+pub walk-prints-the-output : (input : List ℕ) (turns room : ℕ) → HoldsLines room (begun (readerInput (read freshReader input)))
+    → 4098 ≤ turns
+    → pagesText turns room (begun (readerInput (read freshReader input))) ≡ output input
+unfolding output
+walk-prints-the-output input turns room holds many =
+    pages-are-the-output (readerInput (read freshReader input)) turns room holds (omega arith)
+    ∙ ap inputText (reader-reads-the-line input)
+    ∙ kept-text (inputAs input)
