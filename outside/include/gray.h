@@ -6,7 +6,8 @@
  * pointer must still not be null. Memory that is only read may overlap with other such memory, `out` and `made` with none. A
  * refusal writes nothing to `out`; bytes of `out` past those that are written stay as they came.
  *
- * Nothing checks these declarations against the source: crates/capi/src/lib.rt has the contracts. */
+ * crates/capi/src/lib.rt has the contracts. tests/header holds these declarations to it by their text, outside/header.c by
+ * calling each of them. */
 #ifndef GRAY_H
 #define GRAY_H
 #include <stddef.h>
