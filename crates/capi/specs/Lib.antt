@@ -4,3 +4,6 @@
 pub mod Encoding
 -- theorems
 pub mod Told
+pub mod TellsApart
+-- laws
+pub mod Checked
