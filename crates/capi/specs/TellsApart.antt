@@ -91,8 +91,8 @@ word-fits radices r room =
     let word = length-wordAt ms r in
     omega arith))))
 
--- Other writers write at most as many bytes as they are lent. That these are fewer than 2^63 is assumed: no object of C or of Rust is
--- larger than that.
+-- Other writers write at most as many bytes as they are lent. That these are fewer than 2^63 is assumed: no object of C or of
+-- Rust is larger than that.
 module _ (out : List ℕ) (short : length out < 2 ^ 63) where
   abbrev Lent : List ℕ → Type 0
   Lent = Within (length out)
