@@ -5,5 +5,6 @@ pub mod Encoding
 -- theorems
 pub mod Told
 pub mod TellsApart
+pub mod RunsTellApart
 -- laws
 pub mod Checked

@@ -1,8 +1,8 @@
 -- What a call can answer: a value below 2^63, or a refusal by a number from 1 to 11. So a caller can tell its answers apart by
--- their codes.
+-- their codes (`codes-tell-answers-apart`).
 use Prim.Native.Nat.{ℕ, _+_, _-_, _^_, _≤_, _<_}
 use native.Mathlib.Omega.{arith}
-use mathlib.Core.Path.{_≡_, ap}
+use mathlib.Core.Path.{ap}
 use mathlib.Core.Bool.{not, and-eq-true-iff}
 use mathlib.Core.List.{List, map, flatten}
 use borrow.Author.Tests.{leb-true, leb-false, not-false}
@@ -18,8 +18,7 @@ use Rattle.lister_theory.specs.Calls.{wordsFrom, listCall}
 use Rattle.movelog_theory.specs.Logs.{logOf}
 use Rattle.movelog_theory.specs.Shapes.{shaped, capacityIn, radicesIn, movesIn, sameBytes}
 use Rattle.movelog_theory.specs.Calls.{writeCall, readCall, isLogOf}
-use Rattle.capi.specs.Encoding.{encoded}
-use Rattle.capi.specs.Told.{Fits, value, number, codes-tell-answers-apart}
+use Rattle.capi.specs.Told.{Fits, value, number}
 use Rattle.capi.specs.Checked.{Checked, valued, numbered, after-check, after-radices, after-survey, after-fitting}
 
 -- the last number of document 01's list of refusals
@@ -119,30 +118,3 @@ module _ (out : List ℕ) (short : length out < 2 ^ 63) where
       (after-survey last Lent ms c _ (omega arith) (λ o.
       after-check last Lent 8 (ltb (size ms - 1) t) _ (omega arith) (omega arith) (λ e.
       lent (logOf ms c t))))
-
--- ---- two calls with the same code have the same answer
-pub size-codes-tell-apart : (a b : List ℕ) → encoded (sizeCall a) ≡ encoded (sizeCall b) → sizeCall a ≡ sizeCall b
-size-codes-tell-apart a b = codes-tell-answers-apart _ _ (size-fits a) (size-fits b)
-
-pub rank-codes-tell-apart : (a u b v : List ℕ) → encoded (rankCall a u) ≡ encoded (rankCall b v) → rankCall a u ≡ rankCall b v
-rank-codes-tell-apart a u b v = codes-tell-answers-apart _ _ (rank-fits a u) (rank-fits b v)
-
-pub log-read-codes-tell-apart : (a b : List ℕ) → encoded (readCall a) ≡ encoded (readCall b) → readCall a ≡ readCall b
-log-read-codes-tell-apart a b = codes-tell-answers-apart _ _ (log-read-fits a) (log-read-fits b)
-
--- of writers: as many bytes, or the same refusal
-pub word-codes-tell-apart : (a : List ℕ) (r room : ℕ) (b : List ℕ) (s room′ : ℕ)
-    → encoded (byteCount (wordCall a r room)) ≡ encoded (byteCount (wordCall b s room′))
-    → byteCount (wordCall a r room) ≡ byteCount (wordCall b s room′)
-word-codes-tell-apart a r room b s room′ = codes-tell-answers-apart _ _ (word-fits a r room) (word-fits b s room′)
-
-module _ (out out′ : List ℕ) (short : length out < 2 ^ 63) (short′ : length out′ < 2 ^ 63) where
-  pub list-codes-tell-apart : (a : List ℕ) (r t : ℕ) (b : List ℕ) (s u : ℕ)
-      → encoded (byteCount (listCall a r t (length out))) ≡ encoded (byteCount (listCall b s u (length out′)))
-      → byteCount (listCall a r t (length out)) ≡ byteCount (listCall b s u (length out′))
-  list-codes-tell-apart a r t b s u = codes-tell-answers-apart _ _ (list-fits out short a r t) (list-fits out′ short′ b s u)
-
-  pub log-write-codes-tell-apart : (a : List ℕ) (c t : ℕ) (b : List ℕ) (d u : ℕ)
-      → encoded (byteCount (writeCall a c t (length out))) ≡ encoded (byteCount (writeCall b d u (length out′)))
-      → byteCount (writeCall a c t (length out)) ≡ byteCount (writeCall b d u (length out′))
-  log-write-codes-tell-apart a c t b d u = codes-tell-answers-apart _ _ (log-write-fits out short a c t) (log-write-fits out′ short′ b d u)
