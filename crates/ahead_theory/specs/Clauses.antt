@@ -361,6 +361,7 @@ module _ (ms : List ℕ) (c : ℕ) (v : Openable ms c) where
             moves = λ i from to. names-change i (g .named i from (omega arith));
             made = λ i to. before t j g i (omega arith) (fresh-run i);
             dry = λ i from. dry-from d i from;
+            unchanged = λ i from. rest (d .still) i (omega arith) .0 ∙ sym (rest (d .still) (suc t - 1) (omega arith) .0);
             quiet = λ i from. rest (d .still) i (omega arith) .1 ∙ ap (events (fresh ms c)) (omega arith);
           },
         )

@@ -48,13 +48,14 @@ pub record WalksTheList (ms : List ℕ) (w : Walk) : Type 0 where
   pub unchanged : (j : ℕ) → size ms ≤ j → state w (suc j) ≡ state w j
 
 -- (e) there is a call d, at most call N: the calls before it name their changes, and j counts them; it and every later one are
--- dry, and none of their work steps counts
+-- dry, the state stays the one that call d found, and none of their work steps counts
 pub record RunsDry (ms : List ℕ) (w : Walk) (d : ℕ) : Type 0 where
   pub from-one : 1 ≤ d
   pub within-N : d ≤ size ms
   pub moves : (j : ℕ) → 1 ≤ j → j < d → NamesChange ms w j
   pub made : (j : ℕ) → j < d → state w j .moves ≡ j
   pub dry : (j : ℕ) → d ≤ j → answer w j ≡ refused 10
+  pub unchanged : (j : ℕ) → d ≤ j → state w j ≡ state w (d - 1)
   pub quiet : (j : ℕ) → d ≤ j → events w j ≡ events w (d - 1)
 
 -- demand 3, for a walk with the radices ms and the capacity c, and every number of calls. The walk starts at the setting of

@@ -19,7 +19,8 @@ use Rattle.ahead_theory.specs.Clauses.{run-works-ahead, run-stays-in-ran
 -- Every walk that opening gives works ahead as demanded, whatever state it was opened on: (a) the queue never holds more than c
 -- entries; (b) entry j is finished by the useful step that the step formula says, in fewer than 2 j; (c) s counts the useful
 -- steps, and says which entry was finished last; (d) with places for half of the digits that move, rounded up, the calls walk the
--- list and then answer end, and none is dry; (e) with fewer, a call up to call N is dry, and so is every later one.
+-- list and then answer end, and none is dry; (e) with fewer, a call up to call N is dry, and so is every later one, and the
+-- state stays as that call found it.
 pub fresh-walks-work-ahead : (w : Walk) (radices : List ℕ) (c : ℕ)
     → openOf w radices c .answer ≡ given tt
     → WorksAhead (digits radices) c (openOf w radices c .state)
