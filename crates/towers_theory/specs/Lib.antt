@@ -8,6 +8,7 @@ pub mod Calls
 -- what is promised of whole runs, and the theorems
 pub mod Game
 pub mod DisksWalk
+pub mod Examples
 pub mod Openings
 pub mod Kept
 -- the run: why smaller disks are aside, for three pegs and for a ring, the states of each rank, the disk chosen, one call
