@@ -208,6 +208,15 @@ module _ (radices : List ℕ) (c : ℕ) (accepted : ahead.openOf ahead.closedWal
       fits
       ∙ ap (λ (r : Ran walks.Walk). runMakes r out) (run-all ahead.stepOf ms 0 walk (size ms) end run t (omega arith))
 
+-- A refused opening gives its number, and nothing is written.
+pub refused-walks-write-nothing : (radices : List ℕ) (c k : ℕ)
+    → ahead.openOf ahead.closedWalk radices c .answer ≡ refused k
+    → (t : ℕ) (out : List ℕ)
+    → walkMovesCall radices c t out ≡ record { answer = refused k; out = out }
+unfolding walkMovesCall
+refused-walks-write-nothing radices c k e t out =
+    ap (λ (a : Answer Unit). openedRun a (ahead.runOf (ahead.openOf ahead.closedWalk radices c .state) t out) out) e
+
 -- Whatever its capacity, it writes moves of the list, from the first on without a gap.
 pub walk-moves-begin-the-list : (radices : List ℕ) (c : ℕ)
     → ahead.openOf ahead.closedWalk radices c .answer ≡ given tt
@@ -254,6 +263,14 @@ disk-moves-are-the-lists radices accepted t out =
     (walks .in-range 0)
     t
     out
+
+pub refused-disks-write-nothing : (radices : List ℕ) (k : ℕ)
+    → towers.openOf towers.closedTowers radices .answer ≡ refused k
+    → (t : ℕ) (out : List ℕ)
+    → diskMovesCall radices t out ≡ record { answer = refused k; out = out }
+unfolding diskMovesCall
+refused-disks-write-nothing radices k e t out =
+    ap (λ (a : Answer Unit). openedRun a (towers.runOf (towers.openOf towers.closedTowers radices .state) t out) out) e
 
 -- Two controllers, one on each engine, agree on every move, on every end and on every refusal.
 pub engines-agree : (radices : List ℕ) (c : ℕ)

@@ -6,7 +6,7 @@ use native.Mathlib.Omega.{arith}
 use mathlib.Core.Path.{_≡_, refl, sym, ap, ap₂, subst, _∙_}
 use mathlib.Core.List.{List, _∷_, _++_, reverse-reverse}
 use lib.ListN.{length}
-use Rattle.gray_theory.specs.Answers.{Answer, given}
+use Rattle.gray_theory.specs.Answers.{Answer, given, refused}
 use Rattle.gray_theory.specs.MoveBytes.{moveByte}
 use Rattle.gray_theory.specs.Changes.{change}
 use Rattle.gray_theory.specs.Radices.{digits, bytes, size}
@@ -109,6 +109,15 @@ module _ (radices : List ℕ) (c : ℕ) (word : List ℕ) (accepted : resumeOf a
       first-stop (digits radices) c there picked keeps (size (digits radices) - there - 1) 0 (omega arith)
       (λ j low high. absurd (omega arith)) in
       (s .d, s .stop, s .stops .from-one, s .within, writes (s .d) (s .stop) (s .stops))
+
+-- A walk that cannot be picked up gives the refusal's number, and nothing is written.
+pub refused-resuming-writes-nothing : (radices : List ℕ) (c : ℕ) (word : List ℕ) (k : ℕ)
+    → resumeOf ahead.closedWalk radices c word .answer ≡ refused k
+    → (t : ℕ) (out : List ℕ)
+    → resumedMovesCall radices c word t out ≡ record { answer = refused k; out = out }
+unfolding resumedMovesCall
+refused-resuming-writes-nothing radices c word k e t out =
+    ap (λ (a : Answer Unit). openedRun a (ahead.runOf (resumeOf ahead.closedWalk radices c word .state) t out) out) e
 
 -- the moves up to rank j, and those from there on
 pub list-moves-join : (ms : List ℕ) (i j t : ℕ) → listMoves ms i j ++ listMoves ms (i + j) t ≡ listMoves ms i (j + t)
