@@ -1,5 +1,5 @@
--- Computed examples: one walk picked up in mid-list, with every field of its state; and made-up states, which hold the range rule and
--- the rules of a call to document 01 where the theorems about whole walks do not reach. Lists have digit 1 first.
+-- Computed examples: one walk picked up in mid-list, with every field of its state; and made-up states, which hold the range
+-- rule and the rules of a call to document 01 where the theorems about whole walks do not reach. Lists have digit 1 first.
 use Prim.Native.Nat.{ℕ}
 use mathlib.Core.Path.{_≡_, refl}
 use mathlib.Core.Bool.{Bool, true, false}
@@ -19,8 +19,8 @@ use Rattle.ahead_theory.specs.Events.{eventsBy}
 use Rattle.ahead_theory.specs.Pickups.{fillable, fill, pickedUp, resumeOf}
 
 -- ---- a walk that is picked up
--- the survey 2, 1, 3, whose sluice 2 is locked, at 0 0 2, of rank 2 in 6, with two places: sluice 1 is at its top and goes down;
--- entries 3 and 4 are the second that moves and the first; the counter stands at 4
+-- the survey 2, 1, 3, whose sluice 2 is locked, at 0 0 2, of rank 2 in 6, with two places: sluice 1 is at its top and goes
+-- down; entries 3 and 4 are the second that moves and the first; the counter stands at 4
 pub middle-of-2-1-3 : resumeOf closedWalk (2 ∷ 1 ∷ 3 ∷ []) 2 (0 ∷ 0 ∷ 2 ∷ []) ≡ record {
   state =
       record {
@@ -72,8 +72,8 @@ abbrev walk : Producer → ℕ → ℕ → Bool → Walk
 walk p c j over = walkOn word p c j over
 
 -- ---- the range rule, clause by clause: at its bound, and one past it
--- the survey can be opened, and the word is in range. Not so of no digit at all, of a notch at its radix, of a direction up at the top,
--- of a locked digit that goes down, nor where other digits are said to move
+-- the survey can be opened, and the word is in range. Not so of no digit at all, of a notch at its radix, of a direction up at
+-- the top, of a locked digit that goes down, nor where other digits are said to move
 abbrev worded : ℕ → List ℕ → List ℕ → List Bool → Bool
 worded n digits word downs =
     let d : DirectedWord =
@@ -144,8 +144,8 @@ unfolding size allFrom unlocked moving allBelow producerInRange inRange wordInRa
 steps-in-range-once-ended = refl
 
 -- ---- work steps, with two places
--- at a count below m − 1 a work step appends, or is idle where the queue is full; at m − 1 it carries, whether the queue is full or not;
--- at the last place it appends or is idle with b = 0, and is idle with b = 1
+-- at a count below m − 1 a work step appends, or is idle where the queue is full; at m − 1 it carries, whether the queue is
+-- full or not; at the last place it appends or is idle with b = 0, and is idle with b = 1
 pub kinds-of-work : map (kind (3 ∷ 2 ∷ []) 2)
     (made (1 ∷ 1 ∷ 1 ∷ []) 1 (1 ∷ []) 1 0
     ∷ made (1 ∷ 1 ∷ 1 ∷ []) 1 (1 ∷ 1 ∷ []) 2 0
@@ -175,7 +175,8 @@ pub ends-at-its-entry : stepOf (walk (made (2 ∷ 1 ∷ 1 ∷ []) 3 (3 ∷ 1 ∷
 unfolding size allFrom unlocked moving allBelow producerInRange inRange wordInRange movingInRange kind done stepOf course dequeued endOf moveOf digitMoved
 ends-at-its-entry = refl
 
--- entry 2 at j = 5 is digit 3: it goes down to 0 and turns; j becomes N, and the next call gets 7. The two work steps carry, and append
+-- entry 2 at j = 5 is digit 3: it goes down to 0 and turns; j becomes N, and the next call gets 7. The two work steps carry,
+-- and append
 abbrev last : Walk
 last = walk (made (2 ∷ 0 ∷ 1 ∷ []) 1 (2 ∷ []) 1 4) 2 5 false
 

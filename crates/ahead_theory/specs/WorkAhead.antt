@@ -1,5 +1,5 @@
 -- Demand 3: the theorem about the whole run of calls from a fresh walk. What it claims stands in Demand, what runs and work steps
--- are in Runs, what a call is in Calls: the definitions that the contracts of `open` and `step` cite.
+-- are in Events, what a call is in Calls: the definitions that the contracts of `open` and `step` cite.
 use Prim.Native.Nat.{ℕ, _-_}
 use native.Mathlib.Omega.{arith}
 use mathlib.Core.Path.{_≡_, sym, ap, _∙_}

@@ -1,5 +1,5 @@
--- Computed examples: made-up states, which hold the range rule and the rules of a call to document 01 where the theorem about whole
--- games does not reach; and refusals in their order. Lists have digit 1 first.
+-- Computed examples: made-up states, which hold the range rule and the rules of a call to document 01 where the theorem about
+-- whole games does not reach; and refusals in their order. Lists have digit 1 first.
 use Prim.Native.Nat.{ℕ}
 use mathlib.Core.Path.{_≡_, refl}
 use mathlib.Core.Bool.{Bool, true, false}
@@ -54,8 +54,8 @@ pub pegs-on-the-ring : map (λ pegs. inRange (onRing [] [] 0 pegs)) ((4 ∷ 4 �
 unfolding size allFrom unlocked moving allBelow inRange wordInRange movingInRange allOdd allEvenAndEqual
 pegs-on-the-ring = refl
 
--- the word and the directions as in the buffered engine: not so a notch at its radix, a direction up at the top, a locked digit off 0;
--- and counts that the disk engine cannot be opened on
+-- the word and the directions as in the buffered engine: not so a notch at its radix, a direction up at the top, a locked digit
+-- off 0; and counts that the disk engine cannot be opened on
 pub words-in-range : map inRange
     (onThree (4 ∷ 0 ∷ 2 ∷ []) (true ∷ false ∷ true ∷ []) 0 []
     ∷ onThree (5 ∷ 0 ∷ 2 ∷ []) (true ∷ false ∷ true ∷ []) 0 []
@@ -77,8 +77,8 @@ pub peg-of-disk-2 : map (λ a. pegOf (onThree (0 ∷ 0 ∷ a ∷ []) [] 0 []) 1)
 unfolding size allFrom unlocked moving allBelow inRange wordInRange movingInRange allOdd allEvenAndEqual pegOf smallest chosen moveOf digitMoved stepOf
 peg-of-disk-2 = refl
 
--- the smallest on left and middle, turn 0, and on middle and right, turn 1: with the disks left and right, right and left, both in the
--- middle, both right, both left
+-- the smallest on left and middle, turn 0, and on middle and right, turn 1: with the disks left and right, right and left, both
+-- in the middle, both right, both left
 pub chosen-on-three : map (λ t. map (λ word. chosen (onThree word [] t []))
     ((0 ∷ 0 ∷ 2 ∷ []) ∷ (4 ∷ 0 ∷ 0 ∷ []) ∷ (2 ∷ 0 ∷ 1 ∷ []) ∷ (4 ∷ 0 ∷ 2 ∷ []) ∷ (0 ∷ 0 ∷ 0 ∷ []) ∷ []))
     (0 ∷ 1 ∷ [])
@@ -86,7 +86,8 @@ pub chosen-on-three : map (λ t. map (λ word. chosen (onThree word [] t []))
 unfolding size allFrom unlocked moving allBelow inRange wordInRange movingInRange allOdd allEvenAndEqual pegOf smallest chosen moveOf digitMoved stepOf
 chosen-on-three = refl
 
--- disk 2 moves its digit, which is digit 3: up to the top, where it turns. The turn is the other pair's; the pegs of the array stay
+-- disk 2 moves its digit, which is digit 3: up to the top, where it turns. The turn is the other pair's; the pegs of the array
+-- stay
 pub disk-2-on-three : stepOf (onThree (4 ∷ 0 ∷ 1 ∷ []) (true ∷ []) 0 (7 ∷ 8 ∷ []))
     ≡ record {
       state = onThree (4 ∷ 0 ∷ 2 ∷ []) (true ∷ false ∷ true ∷ []) 1 (7 ∷ 8 ∷ []);
@@ -166,8 +167,8 @@ pub faulty-gets-7 : map stepOf (onThree [] [] 2 [] ∷ onRing [] [] 0 (5 ∷ [])
 unfolding size allFrom unlocked moving allBelow inRange wordInRange movingInRange allOdd allEvenAndEqual pegOf smallest chosen moveOf digitMoved stepOf
 faulty-gets-7 = refl
 
--- wrong counts get 6 after all else: 49 digits, a radix 0 and N over 2^62 are told first; N may be 2^62, and counts of locked digits
--- are not looked at
+-- wrong counts get 6 after all else: 49 digits, a radix 0 and N over 2^62 are told first; N may be 2^62, and counts of locked
+-- digits are not looked at
 pub openings-refused : map openCheck
     ((2 ∷ replicate 48 4) ∷ (0 ∷ 2 ∷ 4 ∷ []) ∷ (3 ∷ replicate 31 4) ∷ (2 ∷ replicate 30 4) ∷ (3 ∷ 4 ∷ []) ∷ replicate 31 4 ∷ (1 ∷ 2 ∷ 2 ∷ []) ∷ (1 ∷ []) ∷ [])
     ≡ refused 2 ∷ refused 3 ∷ refused 4 ∷ refused 6 ∷ refused 6 ∷ given tt ∷ given tt ∷ given tt ∷ []

@@ -1,5 +1,5 @@
 -- What the disk engine promises of the whole run of calls from a state. The theorem that every fresh start keeps it stands in
--- Walks.
+-- DisksWalk.
 use Prim.Native.Nat.{ℕ, _-_, _≤_, _<_}
 use mathlib.Core.Path.{_≡_}
 use mathlib.Core.Bool.{Bool, true}

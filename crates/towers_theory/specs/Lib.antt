@@ -1,5 +1,5 @@
--- The disk engine. Read the definitions first, then the game: the theorem in Walks says that the definitions play it along the
--- list.
+-- The disk engine. Read the definitions first, then the game: the theorem in DisksWalk says that the definitions play it along
+-- the list.
 
 -- definitions
 pub mod States
