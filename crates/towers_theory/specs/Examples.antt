@@ -5,7 +5,7 @@ use mathlib.Core.Path.{_≡_, refl}
 use mathlib.Core.Bool.{Bool, true, false}
 use mathlib.Core.List.{List, [], _∷_, map}
 use mathlib.Core.Option.{none, some}
-use lib.ListN.{replicate}
+use lib.ListN.{length, replicate}
 use Rattle.gray_theory.specs.Answers.{given, refused}
 use Rattle.gray_theory.specs.Radices.{size, allFrom}
 use Rattle.gray_theory.specs.Arrays.{filled}
@@ -17,17 +17,24 @@ use Rattle.towers_theory.specs.States.{Towers, allOdd, allEvenAndEqual, 
 use Rattle.towers_theory.specs.Choices.{pegOf, smallest, chosen}
 use Rattle.towers_theory.specs.Calls.{moveOf, stepOf}
 
--- ---- made-up states: three digits, of which digit 2 is locked, so that disks 1 and 2 are those of digits 1 and 3
--- with this word and these directions, turn and pegs
+-- ---- made-up states
+-- on a survey, with this word and these directions, turn and pegs
 abbrev game : List ℕ → List ℕ → List Bool → ℕ → List ℕ → Towers
 game ms word downs turn pegs = record {
   directed =
-      record { radices = filled 48 0 ms; n = 3; moving = record { digits = filled 48 0 (1 ∷ 3 ∷ []); count = 2 }; word = filled 48 0 word; downs = filled 48 false downs };
+      record {
+        radices = filled 48 0 ms;
+        n = length ms;
+        moving = movingDigits ms;
+        word = filled 48 0 word;
+        downs = filled 48 false downs;
+      };
   turn = turn;
   pegs = filled 48 0 pegs;
 }
 
--- on the counts 5, 1, 3, and on 4, 1, 4, whose ring has pegs 0 to 4
+-- on the counts 5, 1, 3, and on 4, 1, 4, whose ring has pegs 0 to 4. Digit 2 is locked: disks 1 and 2 are those of digits 1 and
+-- 3
 abbrev onThree : List ℕ → List Bool → ℕ → List ℕ → Towers
 onThree word downs turn pegs = game (5 ∷ 1 ∷ 3 ∷ []) word downs turn pegs
 
@@ -86,6 +93,11 @@ pub chosen-on-three : map (λ t. map (λ word. chosen (onThree word [] t []))
 unfolding size allFrom unlocked moving allBelow inRange wordInRange movingInRange allOdd allEvenAndEqual pegOf smallest chosen moveOf digitMoved stepOf
 chosen-on-three = refl
 
+-- a locked digit is no disk: on 1, 3, with the one disk on the right peg, there is none on the left pair
+pub locked-is-no-disk : chosen (game (1 ∷ 3 ∷ []) (0 ∷ 2 ∷ []) [] 0 []) ≡ none
+unfolding size allFrom unlocked moving allBelow inRange wordInRange movingInRange allOdd allEvenAndEqual pegOf smallest chosen moveOf digitMoved stepOf
+locked-is-no-disk = refl
+
 -- disk 2 moves its digit, which is digit 3: up to the top, where it turns. The turn is the other pair's; the pegs of the array
 -- stay
 pub disk-2-on-three : stepOf (onThree (4 ∷ 0 ∷ 1 ∷ []) (true ∷ []) 0 (7 ∷ 8 ∷ []))
@@ -139,22 +151,8 @@ pub ends-on-the-ring : stepOf stacked ≡ record { state = stacked; answer = giv
 unfolding size allFrom unlocked moving allBelow inRange wordInRange movingInRange allOdd allEvenAndEqual pegOf smallest chosen moveOf digitMoved stepOf
 ends-on-the-ring = refl
 
--- three disks, on 4, 4, 4, with these pegs, after the sweep: the smallest top disk that is not on the peg of disk 1
-abbrev three : List ℕ → Towers
-three pegs = record {
-  directed =
-      record {
-        radices = filled 48 0 (4 ∷ 4 ∷ 4 ∷ []);
-        n = 3;
-        moving = movingDigits (4 ∷ 4 ∷ 4 ∷ []);
-        word = replicate 48 0;
-        downs = replicate 48 false;
-      };
-  turn = 3;
-  pegs = filled 48 0 pegs;
-}
-
-pub chosen-on-the-ring : map (λ pegs. chosen (three pegs))
+-- three disks, on 4, 4, 4, after the sweep: the smallest top disk that is not on the peg of disk 1
+pub chosen-on-the-ring : map (λ pegs. chosen (game (4 ∷ 4 ∷ 4 ∷ []) [] [] 3 pegs))
     ((1 ∷ 2 ∷ 3 ∷ []) ∷ (1 ∷ 3 ∷ 3 ∷ []) ∷ (1 ∷ 1 ∷ 3 ∷ []) ∷ (1 ∷ 0 ∷ 1 ∷ []) ∷ (1 ∷ 1 ∷ 0 ∷ []) ∷ (1 ∷ 1 ∷ 1 ∷ []) ∷ [])
     ≡ some 1 ∷ some 1 ∷ some 2 ∷ some 1 ∷ some 2 ∷ none ∷ []
 unfolding size allFrom unlocked moving allBelow inRange wordInRange movingInRange allOdd allEvenAndEqual pegOf smallest chosen moveOf digitMoved stepOf
