@@ -89,8 +89,8 @@ stepped j over s = inRange (walk (made [] 1 [] 0 s) 2 j over)
 
 -- clause by clause: at its bound, and one past it
 pub record WalkRange : Type 0 where
-  -- the survey can be opened, and the word is in range. Not so of no digit at all, of a notch at its radix, of a direction up at
-  -- the top, of a locked digit that goes down, nor where other digits are said to move
+  -- the survey can be opened, and the word is in range. Not so of no digit at all, of a notch at its radix, of a direction up
+  -- at the top, of a locked digit that goes down, nor where other digits are said to move
   pub words-in-range : worded 3 (1 ∷ 3 ∷ []) (2 ∷ 0 ∷ 1 ∷ []) (true ∷ false ∷ true ∷ [])
       ∷ worded 0 (1 ∷ 3 ∷ []) (2 ∷ 0 ∷ 1 ∷ []) (true ∷ false ∷ true ∷ [])
       ∷ worded 3 (1 ∷ 3 ∷ []) (3 ∷ 0 ∷ 1 ∷ []) (true ∷ false ∷ true ∷ [])

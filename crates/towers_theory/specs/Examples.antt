@@ -50,8 +50,8 @@ pub record GameRange : Type 0 where
   pub turns-on-the-ring : map (λ t. inRange (onRing [] [] t [])) (0 ∷ 3 ∷ 4 ∷ []) ≡ true ∷ true ∷ false ∷ []
   pub pegs-on-the-ring : map (λ pegs. inRange (onRing [] [] 0 pegs)) ((4 ∷ 4 ∷ []) ∷ (5 ∷ 0 ∷ []) ∷ (0 ∷ 5 ∷ []) ∷ (0 ∷ 0 ∷ 5 ∷ []) ∷ [])
       ≡ true ∷ false ∷ false ∷ true ∷ []
-  -- the word and the directions as in the buffered engine: not so a notch at its radix, a direction up at the top, a locked digit
-  -- off 0; and counts that the disk engine cannot be opened on
+  -- the word and the directions as in the buffered engine: not so a notch at its radix, a direction up at the top, a locked
+  -- digit off 0; and counts that the disk engine cannot be opened on
   pub words-in-range : map inRange
       (onThree (4 ∷ 0 ∷ 2 ∷ []) (true ∷ false ∷ true ∷ []) 0 []
       ∷ onThree (5 ∷ 0 ∷ 2 ∷ []) (true ∷ false ∷ true ∷ []) 0 []
@@ -82,16 +82,16 @@ pub record OnThreePegs : Type 0 where
   -- disk 1 is on the left peg at notch 0, on the right at 4, else in the middle; disk 2 on the right at 2
   pub pegs-by-notches : map (λ a. pegOf (onThree (a ∷ 0 ∷ 2 ∷ []) [] 0 []) 0) (0 ∷ 1 ∷ 3 ∷ 4 ∷ []) ≡ 0 ∷ 1 ∷ 1 ∷ 2 ∷ []
   pub peg-of-disk-2 : map (λ a. pegOf (onThree (0 ∷ 0 ∷ a ∷ []) [] 0 []) 1) (0 ∷ 1 ∷ 2 ∷ []) ≡ 0 ∷ 1 ∷ 2 ∷ []
-  -- the smallest on left and middle, turn 0, and on middle and right, turn 1: with the disks left and right, right and left, both
-  -- in the middle, both right, both left
+  -- the smallest on left and middle, turn 0, and on middle and right, turn 1: with the disks left and right, right and left,
+  -- both in the middle, both right, both left
   pub chosen-on-three : map (λ t. map (λ word. chosen (onThree word [] t []))
       ((0 ∷ 0 ∷ 2 ∷ []) ∷ (4 ∷ 0 ∷ 0 ∷ []) ∷ (2 ∷ 0 ∷ 1 ∷ []) ∷ (4 ∷ 0 ∷ 2 ∷ []) ∷ (0 ∷ 0 ∷ 0 ∷ []) ∷ []))
       (0 ∷ 1 ∷ [])
       ≡ (some 0 ∷ some 1 ∷ some 0 ∷ none ∷ some 0 ∷ []) ∷ (some 1 ∷ some 0 ∷ some 0 ∷ some 0 ∷ none ∷ []) ∷ []
   -- a locked digit is no disk: on 1, 3, with the one disk on the right peg, there is none on the left pair
   pub locked-is-no-disk : chosen (game (1 ∷ 3 ∷ []) (0 ∷ 2 ∷ []) [] 0 []) ≡ none
-  -- disk 2 moves its digit, which is digit 3: up to the top, where it turns. The turn is the other pair's; the pegs of the array
-  -- stay
+  -- disk 2 moves its digit, which is digit 3: up to the top, where it turns. The turn is the other pair's; the pegs of the
+  -- array stay
   pub disk-2-on-three : stepOf (onThree (4 ∷ 0 ∷ 1 ∷ []) (true ∷ []) 0 (7 ∷ 8 ∷ []))
       ≡ record {
         state = onThree (4 ∷ 0 ∷ 2 ∷ []) (true ∷ false ∷ true ∷ []) 1 (7 ∷ 8 ∷ []);
