@@ -30,6 +30,7 @@ pub mod Faults
 pub mod Turns
 pub mod Unlocked
 pub mod SingleCalls
+pub mod Examples
 -- laws
 pub mod Bools
 pub mod Sizes

@@ -163,8 +163,9 @@ module _ (log : List ℕ) (s : Shaped log) where
       ∙ moves-pass (s .moves) (s .end)
       ∙ at-most-one-passes (s .end) (s .at-most-one)
 
--- Bytes have the shape of a log exactly if they are a start with a number n and any capacity, n digit records numbered from 1 with any
--- radices, any number of move records with any bytes, and at most one end with any 8 bytes, in this order, and nothing else.
+-- Bytes have the shape of a log exactly if they are a start with a number n and any capacity, n digit records numbered from 1
+-- with any radices, any number of move records with any bytes, and at most one end with any 8 bytes, in this order, and nothing
+-- else.
 pub shaped-exactly : (log : List ℕ) → (shaped log ≡ true) ↔ Shaped log
 shaped-exactly log = (shape-shown log, shape-passes log)
 
@@ -187,8 +188,8 @@ module _ (log : List ℕ) (s : Shaped log) where
       let long : length head ≡ headLength n = omega arith in
       ap (drop (headLength n)) (parts log s) ∙ drop-at head (moveRecords (s .moves) ++ s .end) (headLength n) long
 
-  -- Of bytes with the shape of a log, the number of digits, the capacity, the radices and the number of moves that are read off them
-  -- are those that they are made of.
+  -- Of bytes with the shape of a log, the number of digits, the capacity, the radices and the number of moves that are read off
+  -- them are those that they are made of.
   pub shaped-says :
       (countIn log ≡ length (s .radices))
       × (capacityIn log ≡ s .capacity)

@@ -5,5 +5,6 @@ pub mod Parsing
 pub mod Readers
 -- theorems
 pub mod Reading
+pub mod Examples
 -- what private functions answer
 pub mod Stages

@@ -9,5 +9,6 @@ pub mod Output
 -- theorems
 pub mod Numerals
 pub mod Kept
+pub mod Examples
 -- laws
 pub mod Fits
