@@ -1,9 +1,10 @@
--- Cases that pin what no theorem says: refusals of the calls in their order, words that do not differ, arrays, and what is in
--- range and out of it.
+-- Cases that pin what no theorem says: refusals of the calls in their order, words that do not differ, arrays, what is in range
+-- and out of it, and runs of moves.
 use Prim.Native.Nat.{ℕ, suc}
 use mathlib.Core.Path.{_≡_, refl}
-use mathlib.Core.Bool.{Bool, true, false}
+use mathlib.Core.Bool.{Bool, true, false, cond}
 use mathlib.Core.List.{List, [], _∷_, _++_, map}
+use lib.Dec.{ltb, leb}
 use lib.ListN.{replicate}
 use Rattle.gray_theory.specs.Answers.{given, refused, numberOf}
 use Rattle.gray_theory.specs.Radices.{size, allFrom}
@@ -14,6 +15,9 @@ use Rattle.gray_theory.specs.Directions.{allBelow}
 use Rattle.gray_theory.specs.Arrays.{filled, digitArray}
 use Rattle.gray_theory.specs.Calls.{surveyCall, rankCall, wordCall}
 use Rattle.gray_theory.specs.DirectedWords.{DirectedWord, freshWord, wordInRange}
+use Rattle.gray_theory.specs.MoveBytes.{moveByte}
+use Rattle.gray_theory.specs.Engines.{Event, moved, ended, Handed}
+use Rattle.gray_theory.specs.RunCalls.{nothing, end, Running, runFrom, runWith}
 
 -- a value has no refusal's number
 pub a-value-has-number-0 : numberOf {A = ℕ} (given 6) ≡ 0
@@ -100,3 +104,25 @@ pub surveys-in-range :
     ≡ false ∷ true ∷ false ∷ []
 unfolding wordInRange movingInRange allBelow moving
 surveys-in-range = refl
+
+-- ---- runs of moves
+-- an engine that moves digit 1 up from 0 to 3 and then ends; its state, the notch, is in range up to 3
+abbrev raised : ℕ → Handed ℕ Event
+raised s =
+    cond (ltb s 3) (record { state = suc s; answer = given (moved (record { digit = 1; down = false })) })
+    (record { state = s; answer = given ended })
+
+abbrev run : ℕ → ℕ → List ℕ → Running ℕ
+run s t out = runWith (λ x. leb x 3) raised s t out
+
+-- two moves from 0, with a byte to spare; two from 2, of which one is made before the end; a state out of range, which comes
+-- before the room; two moves into one byte
+pub runs-of-an-engine :
+    run 0 2 (9 ∷ 9 ∷ 9 ∷ []) ∷ run 2 2 (9 ∷ 9 ∷ 9 ∷ []) ∷ run 4 2 (9 ∷ []) ∷ run 0 2 (9 ∷ []) ∷ []
+    ≡ record { state = 2; answer = given (record { made = 2; stop = nothing }); out = 1 ∷ 1 ∷ 9 ∷ [] }
+    ∷ record { state = 3; answer = given (record { made = 1; stop = end }); out = 1 ∷ 9 ∷ 9 ∷ [] }
+    ∷ record { state = 4; answer = refused 7; out = 9 ∷ [] }
+    ∷ record { state = 0; answer = refused 9; out = 9 ∷ [] }
+    ∷ []
+unfolding runWith runFrom moveByte
+runs-of-an-engine = refl

@@ -4,8 +4,11 @@ use mathlib.Core.Bool.{false}
 use mathlib.Core.List.{[], _∷_, _++_, map}
 use Rattle.gray_theory.specs.Answers.{refused}
 use Rattle.gray_theory.specs.Radices.{size, allFrom}
+use Rattle.gray_theory.specs.Words.{upward, downward, notches, through, list}
+use Rattle.gray_theory.specs.Changes.{difference}
+use Rattle.gray_theory.specs.MoveBytes.{moveByte}
 use Rattle.movelog_theory.specs.Logs.{highFirst, digitRecords, movesFrom, logOf}
-use Rattle.movelog_theory.specs.Shapes.{movesThenEnd, digitsThenMoves, shaped, radicesOf}
+use Rattle.movelog_theory.specs.Shapes.{movesThenEnd, digitsThenMoves, shaped, radicesOf, countMoves, sameBytes}
 use Rattle.movelog_theory.specs.Calls.{writeCall, readCall, movesCall, movesAt, further}
 
 -- the log of 2, 3 with c = 1, t = 5 (document 01), and one byte after its end
@@ -18,9 +21,15 @@ pub empty-part-at-the-start : movesAt (2 ∷ 1 ∷ 3 ∷ []) ≡ 0
 unfolding movesAt readCall shaped
 empty-part-at-the-start = refl
 
-pub nothing-of-a-refused-log : movesCall (2 ∷ 1 ∷ 3 ∷ []) ≡ []
-unfolding movesCall readCall shaped
+-- nor is a move handed back of a log that has one, and a capacity of 0
+pub nothing-of-a-refused-log : movesCall (1 ∷ 1 ∷ 0 ∷ 2 ∷ 1 ∷ 2 ∷ 3 ∷ 1 ∷ []) ≡ []
+unfolding movesCall readCall shaped digitsThenMoves movesThenEnd radicesOf size allFrom
 nothing-of-a-refused-log = refl
+
+-- the part of the log of 2, 3 with its moves begins behind a start and two digit records, of 3 bytes each
+pub part-behind-the-digits : movesAt (logOf (3 ∷ 2 ∷ []) 1 5) ≡ 9
+unfolding movesAt readCall shaped digitsThenMoves movesThenEnd radicesOf countMoves sameBytes logOf digitRecords movesFrom highFirst moveByte difference list through notches upward downward size allFrom
+part-behind-the-digits = refl
 
 -- the lowest refusal that applies to a log: a record cut short and a capacity of 0 get 1; then a radix of 0 and a capacity of 0
 -- get 3, a capacity of 0 and of 33 get 5

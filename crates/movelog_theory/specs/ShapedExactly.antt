@@ -119,6 +119,7 @@ shape-shown (kind ∷ n ∷ c ∷ rest) e =
     let (first, others) = and-eq-true-iff (eqb kind 1) (digitsThenMoves n 1 rest) .0 e in
     let d = digits-shown n 1 rest others in
     let m = d .then in
+    let records = digitRecords 1 (d .radices) in
     record {
       capacity = c;
       radices = d .radices;
@@ -127,8 +128,10 @@ shape-shown (kind ∷ n ∷ c ∷ rest) e =
       at-most-one = m .at-most-one;
       bytes =
           ap₂ (λ k j. k ∷ j ∷ c ∷ rest) (eqb-true kind 1 first) (sym (d .count))
-          ∙ ap (λ l. 1 ∷ length (d .radices) ∷ c ∷ l) (d .bytes ∙ ap (λ l. digitRecords 1 (d .radices) ++ l) (m .bytes))
-          ∙ ap (λ l. 1 ∷ length (d .radices) ∷ c ∷ l) (sym (append-assoc (digitRecords 1 (d .radices)) (moveRecords (m .moves)) (m .end)));
+          ∙ ap (λ l. startRecord (length (d .radices)) c ++ l)
+          (d .bytes
+          ∙ ap (λ l. records ++ l) (m .bytes)
+          ∙ sym (append-assoc records (moveRecords (m .moves)) (m .end)));
     }
 
 -- ---- what is made of records passes the test
