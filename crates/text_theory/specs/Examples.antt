@@ -2,6 +2,7 @@
 use mathlib.Core.Path.{_≡_, refl}
 use mathlib.Core.Bool.{true, false}
 use mathlib.Core.List.{[], _∷_, map}
+use lib.ListN.{replicate}
 use Rattle.gray_theory.specs.Answers.{given, refused}
 use Rattle.gray_theory.specs.Radices.{size, allFrom}
 use Rattle.gray_theory.specs.Words.{list, upward, downward, notches, through}
@@ -20,8 +21,8 @@ pub lines-read :
 unfolding inputAs lineAs firstLine hasNewline fields isCount allCounts isNumber allDigits valueFrom
 lines-read = refl
 
--- no newline; 256; four digits; a space in front, behind, two of them, one alone; the bytes before 0 and behind 9; another
--- separator; a count that is none behind one that is
+-- no newline; 256; four digits; a space in front, behind, two of them, one alone; the bytes before 0 and behind 9; a comma and a
+-- tab for a space; a return before the newline; a count that is none behind one that is
 pub lines-unread :
     map inputAs
     ([]
@@ -35,9 +36,11 @@ pub lines-unread :
     ∷ ascii "/\n"
     ∷ ascii ":\n"
     ∷ ascii "2,3\n"
+    ∷ ascii "2\t3\n"
+    ∷ ascii "2\r\n"
     ∷ ascii "2 x\n"
     ∷ [])
-    ≡ unread ∷ unread ∷ unread ∷ unread ∷ unread ∷ unread ∷ unread ∷ unread ∷ unread ∷ unread ∷ unread ∷ unread ∷ []
+    ≡ replicate 14 unread
 unfolding inputAs lineAs firstLine hasNewline fields isCount allCounts isNumber allDigits valueFrom
 lines-unread = refl
 
