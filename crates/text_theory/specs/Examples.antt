@@ -68,12 +68,12 @@ unfolding lineCall lineText settingText decimal decimalIn
 a-line-just-fits = refl
 
 -- numbers: the largest that 64 bits hold, with a zero in front too, and one more; no digit at all; a letter
-pub numbers-read :
+pub numbers-of-64-bits :
     map isNumber
     (ascii "18446744073709551615" ∷ ascii "018446744073709551615" ∷ ascii "18446744073709551616" ∷ [] ∷ ascii "1a" ∷ [])
     ≡ true ∷ true ∷ false ∷ false ∷ false ∷ []
 unfolding isNumber allDigits valueFrom
-numbers-read = refl
+numbers-of-64-bits = refl
 
 -- the digits, and the bytes before and behind them, which are none
 pub digits-read : map digitOf (ascii "0123456789/:") ≡ 0 ∷ 1 ∷ 2 ∷ 3 ∷ 4 ∷ 5 ∷ 6 ∷ 7 ∷ 8 ∷ 9 ∷ 10 ∷ 10 ∷ []
