@@ -67,7 +67,7 @@ kept word downs numbers count = record {
 }
 
 -- in range: the start; digit 1 in the middle, up and down; at its top, down; all at their tops
-pub in-range :
+pub words-and-directions-in-range :
     map (wordInRange (λ ms. given tt))
     (kept [] [] (1 ∷ 3 ∷ []) 2
     ∷ kept (1 ∷ []) [] (1 ∷ 3 ∷ []) 2
@@ -77,11 +77,11 @@ pub in-range :
     ∷ [])
     ≡ true ∷ true ∷ true ∷ true ∷ true ∷ []
 unfolding wordInRange movingInRange allBelow moving
-in-range = refl
+words-and-directions-in-range = refl
 
 -- out of range: a digit at its radix; down at 0; up at its top, digit 1 and digit 3; a locked digit at notch 1, and one that
 -- goes down; the digits that move are others, one less, one more
-pub out-of-range :
+pub words-and-directions-out-of-range :
     map (wordInRange (λ ms. given tt))
     (kept (3 ∷ []) (true ∷ []) (1 ∷ 3 ∷ []) 2
     ∷ kept [] (true ∷ []) (1 ∷ 3 ∷ []) 2
@@ -95,7 +95,7 @@ pub out-of-range :
     ∷ [])
     ≡ false ∷ false ∷ false ∷ false ∷ false ∷ false ∷ false ∷ false ∷ false ∷ []
 unfolding wordInRange movingInRange allBelow moving
-out-of-range = refl
+words-and-directions-out-of-range = refl
 
 -- a survey that the engine's check refuses is out of range; 48 digits are in range, and 49 are not
 pub surveys-in-range :
