@@ -3,7 +3,7 @@ use Prim.Native.Nat.{ℕ, _≤_}
 use native.Mathlib.Omega.{arith}
 use mathlib.Core.Path.{_≡_, refl, sym, ap, _∙_}
 use mathlib.Core.List.{List, []}
-use lib.ListN.{take}
+use lib.ListN.{length, take}
 use lib.Seq.{take-all}
 use Rattle.gray_theory.specs.Answers.{Answer, given, refused}
 use Rattle.gray_theory.specs.Calls.{sizeCall}
@@ -14,7 +14,7 @@ use Rattle.text_theory.specs.Output.{surveyText, inputText, output}
 use Rattle.text_theory.specs.Kept.{kept-counts-answer-alike}
 use Rattle.reader.specs.Readers.{freshReader, read, readerInput, upTo49}
 use Rattle.reader.specs.Reading.{reader-reads-the-line}
-use Rattle.pages_theory.specs.Pages.{begun, HoldsLines, pagesText}
+use Rattle.pages_theory.specs.Pages.{begun, HoldsLines, written}
 use Rattle.pages_theory.specs.WalkLines.{first-line}
 use Rattle.pages_theory.specs.Printed.{pages-are-the-output}
 
@@ -34,14 +34,14 @@ kept-text : (read : Input) → inputText (upTo49 read) ≡ inputText read
 kept-text unread = refl
 kept-text (counts cs) = kept-with cs (sizeCall cs) refl
 
--- Whatever bytes come in, in whatever parts (`parts-read-as-one`), the pages that are filled for them, one after the other, are
--- the output that document 01 has for them: at any page size that holds every line, `walk`'s 4,096 bytes too
--- (`wide-pages-hold-every-line`).
-pub walk-prints-the-output : (input : List ℕ) (turns room : ℕ) → HoldsLines room (begun (readerInput (read freshReader input)))
+-- Whatever bytes come in, in whatever parts (`parts-read-as-one`), what is written for them, page after page, is the output that
+-- document 01 has for them: with any page that holds every line, `walk`'s 4,096 bytes too (`wide-pages-hold-every-line`).
+pub walk-prints-the-output : (input : List ℕ) (turns : ℕ) (page : List ℕ)
+    → HoldsLines (length page) (begun (readerInput (read freshReader input)))
     → 4098 ≤ turns
-    → pagesText turns room (begun (readerInput (read freshReader input))) ≡ output input
+    → written turns (begun (readerInput (read freshReader input))) page ≡ output input
 unfolding output
-walk-prints-the-output input turns room holds many =
-    pages-are-the-output (readerInput (read freshReader input)) turns room holds (omega arith)
+walk-prints-the-output input turns page holds many =
+    pages-are-the-output (readerInput (read freshReader input)) turns page holds (omega arith)
     ∙ ap inputText (reader-reads-the-line input)
     ∙ kept-text (inputAs input)

@@ -2,16 +2,17 @@
 use Prim.Native.Nat.{ℕ, zero, suc, _-_, _≤_, _<_}
 use native.Mathlib.Omega.{arith}
 use native.Mathlib.Decide.{decLt}
-use mathlib.Core.Path.{_≡_, refl, sym, ap, _∙_, subst}
+use mathlib.Core.Path.{_≡_, refl, sym, ap, ap₂, _∙_, subst}
 use mathlib.Core.Bool.{Bool, true, false, cond}
 use mathlib.Core.List.{List, [], _++_, append-assoc, append-nil}
 use borrow.Author.Tests.{lt-ltb, le-ltb}
-use lib.ListN.{length, length-append}
+use lib.ListN.{length, take, drop, length-append, length-drop}
+use lib.Seq.{take-at}
 use Rattle.gray_theory.specs.Bools.{impossible}
 use Rattle.ahead_theory.specs.States.{Walk, setting}
 use Rattle.text_theory.specs.declared.Line.{Line}
 use Rattle.text_theory.specs.declared.Line.the-variants.{Unread, Refused, Long, Sizes, Start, Moved, End}
-use Rattle.pages_theory.specs.Pages.{Printing, textOf, isLast, behind, onward, HoldsLines, Page, full, joined, pageIn, pageOf, pagesText, filling}
+use Rattle.pages_theory.specs.Pages.{Printing, textOf, isLast, behind, onward, HoldsLines, Page, full, joined, pageIn, pageOf, filling, written}
 use Rattle.pages_theory.specs.Lengths.{line-some}
 
 -- what is printed from p on: k lines behind the one that comes next, the last of them a last line, none longer than `room`; and
@@ -116,6 +117,12 @@ module _ (room : ℕ) where
       ]
 
 -- ---- all of them
+-- the text of at most `turns` pages, one after the other, each of them into the same room
+unfoldable pagesText : ℕ → ℕ → Printing → List ℕ
+pagesText zero room p = []
+pagesText (suc turns) room p =
+    pageOf room p .text ++ cond (pageOf room p .last) [] (pagesText turns room (pageOf room p .rest))
+
 module _ (room : ℕ) where
   AllPrinted : ℕ → Type 0
   AllPrinted turns = (k : ℕ) (p : Printing) (text : List ℕ) → Prints (suc room) k p text → k < turns → pagesText turns (suc room) p ≡ text
@@ -141,7 +148,7 @@ pages-printed room (suc turns) k p text prints h =
     pages-with room turns (pages-printed room turns) k p text (omega arith)
     (cut-fits (suc room) room (cut (suc room) room) (suc room) k p text (prints-hold prints 0) prints)
 
-pub pages-print-the-lines : (room turns k : ℕ) (p : Printing) (text : List ℕ) → 0 < room → Prints room k p text → k < turns
+pages-print-the-lines : (room turns k : ℕ) (p : Printing) (text : List ℕ) → 0 < room → Prints room k p text → k < turns
     → pagesText turns room p ≡ text
 unfolding AllPrinted
 pages-print-the-lines zero turns k p text some prints h = absurd (omega arith)
@@ -227,3 +234,32 @@ page-fits (suc turns) r p =
 pub filling-fits : (p : Printing) (page : List ℕ) → filling p page .used ≤ length page
 unfolding filling FitsIn
 filling-fits p page = page-fits (length page) (length page) p
+
+-- ---- what is written is the text of the pages
+module _ (p : Printing) (page : List ℕ) where
+  -- the bytes that are used are the page's text
+  used-text : take (filling p page .used) (filling p page .page) ≡ pageOf (length page) p .text
+  unfolding filling
+  used-text =
+      let text = pageOf (length page) p .text in
+      take-at text (drop (length text) page) (length text) refl
+
+  -- the page stays as long as it is
+  same-room : length (filling p page .page) ≡ length page
+  unfolding filling
+  same-room =
+      let text = pageOf (length page) p .text in
+      omega (arith, filling-fits p page, length-append text (drop (length text) page), length-drop (length text) page)
+
+written-pages : (turns : ℕ) (p : Printing) (page : List ℕ) → written turns p page ≡ pagesText turns (length page) p
+unfolding written pagesText filling
+written-pages zero p page = refl
+written-pages (suc turns) p page =
+    let f = filling p page in
+    ap₂ (λ t rest. t ++ cond (f .last) [] rest) (used-text p page)
+    (written-pages turns (f .rest) (f .page) ∙ ap (λ room. pagesText turns room (f .rest)) (same-room p page))
+
+pub written-lines : (turns k : ℕ) (p : Printing) (text page : List ℕ) → 0 < length page → Prints (length page) k p text → k < turns
+    → written turns p page ≡ text
+written-lines turns k p text page some prints h =
+    written-pages turns p page ∙ pages-print-the-lines (length page) turns k p text some prints h

@@ -4,6 +4,7 @@
 pub mod Pages
 -- theorems
 pub mod Printed
+pub mod Examples
 -- laws
 pub mod Lengths
 pub mod WalkLines

@@ -4,7 +4,7 @@ use Prim.Native.Nat.{ℕ, zero, suc, _+_, _-_, _/_, _≤_}
 use mathlib.Core.Bool.{Bool, true, false, cond}
 use mathlib.Core.List.{List, [], _++_}
 use lib.Dec.{eqb, ltb}
-use lib.ListN.{length, drop}
+use lib.ListN.{length, take, drop}
 use Rattle.gray_theory.specs.Answers.{Answer, given, refused}
 use Rattle.gray_theory.specs.Engines.{Event, moved, ended}
 use Rattle.gray_theory.specs.Locks.{unlocked}
@@ -108,13 +108,7 @@ pageIn (suc turns) room p =
 abbrev pub pageOf : ℕ → Printing → Page
 pageOf room p = pageIn room room p
 
--- the text of at most `turns` pages, one after the other, each of them into the same room
-unfoldable pub pagesText : ℕ → ℕ → Printing → List ℕ
-pagesText zero room p = []
-pagesText (suc turns) room p =
-    pageOf room p .text ++ cond (pageOf room p .last) [] (pagesText turns room (pageOf room p .rest))
-
--- ---- the call
+-- ---- the call, and what is written
 -- what the filling of a lent page hands back: what is to be printed behind it, how many of its bytes are used, and whether it is the
 -- last one; and the page, with its text at the start and every byte past that as it came
 pub record Filled : Type 0 where
@@ -132,3 +126,10 @@ filling p page =
       last = made .last;
       page = made .text ++ drop (length (made .text)) page;
     }
+
+-- what is written of at most `turns` pages: of each the bytes that are used, and then the next, filled over it
+unfoldable pub written : ℕ → Printing → List ℕ → List ℕ
+written zero p page = []
+written (suc turns) p page =
+    take (filling p page .used) (filling p page .page)
+    ++ cond (filling p page .last) [] (written turns (filling p page .rest) (filling p page .page))

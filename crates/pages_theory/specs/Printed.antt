@@ -20,9 +20,9 @@ use Rattle.text_theory.specs.Surveys.{Input, counts, unread}
 use Rattle.text_theory.specs.Lines.{lineText, surveyLine}
 use Rattle.text_theory.specs.Output.{moveLines, walkText, surveyText, inputText}
 use Rattle.text_theory.specs.declared.Line.the-variants.{Unread, Refused, Long, Sizes, Start, End}
-use Rattle.pages_theory.specs.Pages.{Printing, printingOf, begun, called, onward, HoldsLines, pagesText}
+use Rattle.pages_theory.specs.Pages.{Printing, printingOf, begun, called, onward, HoldsLines, written}
 use Rattle.pages_theory.specs.Lengths.{refused-length, sizes-length, start-length, line-some}
-use Rattle.pages_theory.specs.Filling.{Prints, prints-in, prints-hold, pages-print-the-lines}
+use Rattle.pages_theory.specs.Filling.{Prints, prints-in, prints-hold, written-lines}
 use Rattle.pages_theory.specs.WalkLines.{first-line, walked, last-prints, more-prints, member-length, moves-print}
 
 -- the numbers of a refused survey
@@ -121,16 +121,16 @@ prints-all unread =
 prints-all (counts radices) = survey-prints radices (sizeCall radices) refl
 
 -- ---- the theorems
--- For whatever was read, the pages one after the other are what document 01 has `walk` print, at any page size that holds every
--- line. There are at most as many pages as lines, 4,098.
-pub pages-are-the-output : (read : Input) (turns room : ℕ) → HoldsLines room (begun read) → 4098 ≤ turns
-    → pagesText turns room (begun read) ≡ inputText read
+-- For whatever was read, what is written, page after page, is what document 01 has `walk` print: with any page that holds every
+-- line, whatever bytes it has at first. There are at most as many pages as lines, 4,098.
+pub pages-are-the-output : (read : Input) (turns : ℕ) (page : List ℕ) → HoldsLines (length page) (begun read) → 4098 ≤ turns
+    → written turns (begun read) page ≡ inputText read
 unfolding onward
-pages-are-the-output read turns room holds many =
+pages-are-the-output read turns page holds many =
     let all = prints-all read in
-    let some : 0 < room = omega (arith, line-some (begun read .line) (setting (begun read .walk)), holds 0) in
+    let some : 0 < length page = omega (arith, line-some (begun read .line) (setting (begun read .walk)), holds 0) in
     let few = all .few in
-    pages-print-the-lines room turns (all .lines) (begun read) (inputText read) some (prints-in (all .prints) holds) (omega arith)
+    written-lines turns (all .lines) (begun read) (inputText read) page some (prints-in (all .prints) holds) (omega arith)
 
 -- No line is longer than 254 bytes: pages as wide as that hold every line, and `walk`'s, of 4,096 bytes, do.
 pub wide-pages-hold-every-line : (read : Input) (room : ℕ) → 254 ≤ room → HoldsLines room (begun read)

@@ -47,7 +47,7 @@ fn read_line() -> Reader {
     reader
 }
 
-// Page after page, up to the last one. There are 4,098 at the most.
+// Page after page, up to the last one: `written` of pages_theory. There are 4,098 at the most.
 fn write_pages(begun: Printing, page: &mut [u8]) {
     let mut printing = begun;
     let mut pages = u64::MAX;
