@@ -1,5 +1,5 @@
--- What the phases of a run come to: from wherever a walk stands it keeps to the list; and, one by one, the clauses of demand 3, which
--- is about walks from the start.
+-- What the phases of a run come to: from wherever a walk stands it keeps to the list; and, one by one, the clauses of demand 3,
+-- which is about walks from the start.
 use Prim.Native.Nat.{ℕ, suc, _+_, _-_, _*_, _≤_, _<_}
 use native.Mathlib.Decide.{decLt}
 use native.Mathlib.Nat.{zero-add}

@@ -22,8 +22,8 @@ pub record Within (c : ℕ) (w : Walk) : Type 0 where
   pub first : once w .queued ≤ c
   pub second : twice w .queued ≤ c
 
--- (b) the useful step that appends an entry, with the work steps before it: it is the one that the step formula says, and entry j
--- is finished in fewer than 2 j
+-- (b) the useful step that appends an entry, with the work steps before it: it is the one that the step formula says, and entry
+-- j is finished in fewer than 2 j
 pub record Finished (ms : List ℕ) (before : List Work) : Type 0 where
   pub formula : suc (useful before) ≡ cost ms (suc (appends before))
   pub double : suc (useful before) < 2 * suc (appends before)
@@ -70,8 +70,8 @@ pub record WorksAhead (ms : List ℕ) (c : ℕ) (w : Walk) : Type 0 where
   pub never-dry : length (unlocked ms) ≤ 2 * c → WalksTheList ms w
   pub dry-within-N : 2 * c < length (unlocked ms) → (d : ℕ) × RunsDry ms w d
 
--- besides: every state of the run is in range, so that no call gets 7, and unless all digits are locked no work step of it meets
--- the idle rule at the last place. With all locked the second work step of the first call does
+-- besides: every state of the run is in range, so that no call gets 7, and unless all digits are locked no work step of it
+-- meets the idle rule at the last place. With all locked the second work step of the first call does
 pub record StaysInRange (ms : List ℕ) (w : Walk) : Type 0 where
   pub in-range : (t : ℕ) → inRange (state w t) ≡ true
   pub never-7 : (j : ℕ) → answer w j ≡ refused 7 → ⊥

@@ -1,5 +1,5 @@
--- What a run can say, of a walk from the start, of one that is picked up, or by the disk engine: all moves made, the end, dry, or
--- refused by a number below 10. So a caller can tell how a run went by its code and the number of its moves
+-- What a run can say, of a walk from the start, of one that is picked up, or by the disk engine: all moves made, the end, dry,
+-- or refused by a number below 10. So a caller can tell how a run went by its code and the number of its moves
 -- (`codes-tell-runs-apart`).
 use Prim.Native.Nat.{ℕ, _+_, _-_}
 use native.Mathlib.Decide.{decLt}

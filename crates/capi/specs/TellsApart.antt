@@ -1,5 +1,5 @@
--- What a call can answer: a value below 2^63, or a refusal by a number from 1 to 11. So a caller can tell its answers apart by
--- their codes (`codes-tell-answers-apart`).
+-- What a call can answer: a value below 2^63, or a refusal by a number from 1 to 255 (it is one of document 01's eleven). So a
+-- caller can tell its answers apart by their codes (`codes-tell-answers-apart`).
 use Prim.Native.Nat.{ℕ, _+_, _-_, _^_, _≤_, _<_}
 use native.Mathlib.Omega.{arith}
 use mathlib.Core.Path.{ap}

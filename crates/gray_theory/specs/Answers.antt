@@ -35,8 +35,8 @@ abbrev pub byteCount : Answer (List ℕ) → Answer ℕ
 byteCount (given bytes) = given (length bytes)
 byteCount (refused k) = refused k
 
--- what is in the lent memory after a writer: its bytes at the start and every byte past them as it came; all of them as they came
--- where it refuses
+-- what is in the lent memory after a writer: its bytes at the start and every byte past them as it came; all of them as they
+-- came where it refuses
 abbrev pub outputAfter : Answer (List ℕ) → List ℕ → List ℕ
 outputAfter (given bytes) out = bytes ++ drop (length bytes) out
 outputAfter (refused k) out = out

@@ -11,7 +11,7 @@ use lib.Dec.{eqb}
 use lib.ListN.{length, drop}
 use lib.Seq.{drop-at}
 use Rattle.gray_theory.specs.Bools.{impossible}
-use Rattle.movelog_theory.specs.Logs.{startRecord, moveRecordOf, digitRecords, endLength, headLength}
+use Rattle.movelog_theory.specs.Logs.{startRecord, moveRecordOf, endRecordOf, digitRecords, endLength, headLength}
 use Rattle.movelog_theory.specs.Shapes.{shaped, digitsThenMoves, movesThenEnd, isEnd}
 use Rattle.movelog_theory.specs.Shapes.{countIn, capacityIn, radicesIn, countMoves, movesIn}
 use Rattle.movelog_theory.specs.Lengths.{length-digitRecords}
@@ -23,10 +23,10 @@ unfoldable pub moveRecords : List ℕ → List ℕ
 moveRecords [] = []
 moveRecords (byte ∷ others) = moveRecordOf byte ++ moveRecords others
 
--- at most one end: no bytes at all, or kind 4 and 8 bytes, whatever they are
+-- at most one end: no bytes at all, or an end with 8 bytes, whatever they are
 pub data AtMostOneEnd (l : List ℕ) : Type 0 where
   none : l ≡ [] → AtMostOneEnd l
-  one : (body : List ℕ) → length body ≡ 8 → l ≡ 4 ∷ body → AtMostOneEnd l
+  one : (body : List ℕ) → length body ≡ 8 → l ≡ endRecordOf body → AtMostOneEnd l
 
 -- a start, a record for each digit numbered from 1, moves, at most one end, and nothing else
 pub record Shaped (log : List ℕ) : Type 0 where
@@ -140,7 +140,7 @@ unfolding movesThenEnd moveRecords
 moves-pass [] l = refl
 moves-pass (byte ∷ others) l = moves-pass others l
 
-end-passes : (body : List ℕ) → length body ≡ 8 → movesThenEnd (4 ∷ body) ≡ true
+end-passes : (body : List ℕ) → length body ≡ 8 → movesThenEnd (endRecordOf body) ≡ true
 unfolding movesThenEnd
 end-passes [] h = absurd (omega arith)
 end-passes (byte ∷ rest) h = eq-eqb (length (4 ∷ byte ∷ rest)) endLength (omega arith)

@@ -14,7 +14,7 @@ use Rattle.text_theory.specs.Lines.{lineCall}
 use Rattle.text_theory.specs.Fits.{LineWritten, line-written, line-refused}
 use Rattle.pages_theory.specs.Pages.{Printing, textOf, isLast, behind, Page, joined, pageOf, filling}
 use Rattle.pages_theory.specs.Lengths.{line-some}
-use Rattle.pages_theory.specs.Filling.{page-full, page-last, page-more}
+use Rattle.pages_theory.specs.PageLaws.{page-full, page-last, page-more}
 
 -- ---- a line behind the first `used` bytes of a page
 -- the part that is lent is all that is left

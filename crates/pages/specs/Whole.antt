@@ -3,7 +3,7 @@ use Prim.Native.Nat.{ℕ, _≤_}
 use native.Mathlib.Omega.{arith}
 use mathlib.Core.Path.{_≡_, refl, sym, ap, _∙_}
 use mathlib.Core.List.{List, []}
-use lib.ListN.{length, take}
+use lib.ListN.{length, take, replicate, length-replicate}
 use lib.Seq.{take-all}
 use Rattle.gray_theory.specs.Answers.{Answer, given, refused}
 use Rattle.gray_theory.specs.Calls.{sizeCall}
@@ -16,7 +16,7 @@ use Rattle.reader.specs.Readers.{freshReader, read, readerInput, upTo49}
 use Rattle.reader.specs.Reading.{reader-reads-the-line}
 use Rattle.pages_theory.specs.Pages.{begun, HoldsLines, written}
 use Rattle.pages_theory.specs.WalkLines.{first-line}
-use Rattle.pages_theory.specs.Printed.{pages-are-the-output}
+use Rattle.pages_theory.specs.Printed.{pages-are-the-output, wide-pages-hold-every-line}
 
 -- ---- more counts than are kept change no text
 kept-with : (cs : List ℕ) (a : Answer ℕ) → sizeCall cs ≡ a → inputText (counts (take 49 cs)) ≡ inputText (counts cs)
@@ -30,12 +30,12 @@ kept-with cs (refused k) e =
     ∙ ap (λ l. lineText l []) (first-line (take 49 cs) (refused k) kept ∙ sym (first-line cs (refused k) e))
     ∙ sym (ap (surveyText cs) e)
 
-kept-text : (read : Input) → inputText (upTo49 read) ≡ inputText read
+kept-text : (i : Input) → inputText (upTo49 i) ≡ inputText i
 kept-text unread = refl
 kept-text (counts cs) = kept-with cs (sizeCall cs) refl
 
--- Whatever bytes come in, in whatever parts (`parts-read-as-one`), what is written for them, page after page, is the output that
--- document 01 has for them: with any page that holds every line, `walk`'s 4,096 bytes too (`wide-pages-hold-every-line`).
+-- Whatever bytes come in, in whatever parts (`parts-read-as-one`), and read no further than need be (`read-no-further`): what
+-- is written for them, page after page, is the output that document 01 has for them, with any page that holds every line.
 pub walk-prints-the-output : (input : List ℕ) (turns : ℕ) (page : List ℕ)
     → HoldsLines (length page) (begun (readerInput (read freshReader input)))
     → 4098 ≤ turns
@@ -45,3 +45,12 @@ walk-prints-the-output input turns page holds many =
     pages-are-the-output (readerInput (read freshReader input)) turns page holds (omega arith)
     ∙ ap inputText (reader-reads-the-line input)
     ∙ kept-text (inputAs input)
+
+-- The buffer of document 01, 4,096 zero bytes, holds every line.
+pub through-4096-zero-bytes : (input : List ℕ) (turns : ℕ) → 4098 ≤ turns
+    → written turns (begun (readerInput (read freshReader input))) (replicate 4096 0) ≡ output input
+through-4096-zero-bytes input turns many =
+    let room : length (replicate 4096 0) ≡ 4096 = length-replicate 4096 0 in
+    walk-prints-the-output input turns (replicate 4096 0)
+    (wide-pages-hold-every-line (readerInput (read freshReader input)) (length (replicate 4096 0)) (omega arith))
+    (omega arith)

@@ -21,7 +21,8 @@ places-that-walk-takes = refl
 abbrev atFirst : Printing
 atFirst = record { line = Sizes 2 6; walk = closedWalk }
 
--- a page one byte shorter than a line stays as it came; one just as long holds it; one longer by less than the next line holds no more
+-- a page one byte shorter than a line stays as it came; one just as long holds it; one longer by less than the next line holds
+-- no more
 pub whole-lines-that-fit :
     map (λ n. filling atFirst (replicate n 7)) (20 ∷ 21 ∷ 23 ∷ [])
     ≡ record { rest = atFirst; used = 0; last = false; page = replicate 20 7 }

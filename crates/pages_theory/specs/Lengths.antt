@@ -1,5 +1,5 @@
--- How long the lines of a walk of at most 4,096 settings are: a rank or a notch has at most four digits, so that no line has more than
--- 254 bytes.
+-- How long the lines of a walk of at most 4,096 settings are: a rank or a notch has at most four digits, so that no line has
+-- more than 254 bytes.
 use Prim.Native.Nat.{ℕ, _*_, _≤_, _<_}
 use native.Mathlib.Omega.{arith}
 use native.Mathlib.Nat.{le-mul-of-pos-right, mul-le-mul-right}

@@ -1,4 +1,5 @@
--- The output of the program `walk` (document 01) as it is made: line after line of a walk, in pages. Read the definitions first.
+-- The output of the program `walk` (document 01) as it is made: line after line of a walk, in pages. Read the definitions
+-- first.
 
 -- definitions
 pub mod Pages
@@ -8,4 +9,4 @@ pub mod Examples
 -- laws
 pub mod Lengths
 pub mod WalkLines
-pub mod Filling
+pub mod PageLaws

@@ -1,5 +1,5 @@
--- The output of the program `walk` as it is made: a line after the other, each from the walk as it stands there, and pages that hold
--- whole lines. That the pages together are `output` (text_theory) is in Printed.
+-- The output of the program `walk` as it is made: a line after the other, each from the walk as it stands there, and pages that
+-- hold whole lines. That the pages together are `output` (text_theory) is in Printed.
 use Prim.Native.Nat.{ℕ, zero, suc, _+_, _-_, _/_, _≤_}
 use mathlib.Core.Bool.{Bool, true, false, cond}
 use mathlib.Core.List.{List, [], _++_}
@@ -61,8 +61,8 @@ callLine (refused k) j = Refused k
 abbrev pub called : Walk → Printing
 called w = record { line = callLine (stepOf w .answer) (stepOf w .state .moves); walk = stepOf w .state }
 
--- what comes behind a line: the start behind the first one, and a call for every line after it. Behind a last line nothing does,
--- and it stays
+-- what comes behind a line: the start behind the first one, and a call for every line after it. Behind a last line nothing
+-- does, and it stays
 abbrev pub behind : Line → Walk → Printing
 behind (Sizes n total) w = record { line = Start; walk = w }
 behind Start w = called w
@@ -109,8 +109,8 @@ abbrev pub pageOf : ℕ → Printing → Page
 pageOf room p = pageIn room room p
 
 -- ---- the call, and what is written
--- what the filling of a lent page hands back: what is to be printed behind it, how many of its bytes are used, and whether it is the
--- last one; and the page, with its text at the start and every byte past that as it came
+-- what the filling of a lent page hands back: what is to be printed behind it, how many of its bytes are used, and whether it
+-- is the last one; and the page, with its text at the start and every byte past that as it came
 pub record Filled : Type 0 where
   pub rest : Printing
   pub used : ℕ

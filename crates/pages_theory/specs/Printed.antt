@@ -22,7 +22,7 @@ use Rattle.text_theory.specs.Output.{moveLines, walkText, surveyText, inputText
 use Rattle.text_theory.specs.declared.Line.the-variants.{Unread, Refused, Long, Sizes, Start, End}
 use Rattle.pages_theory.specs.Pages.{Printing, printingOf, begun, called, onward, HoldsLines, written}
 use Rattle.pages_theory.specs.Lengths.{refused-length, sizes-length, start-length, line-some}
-use Rattle.pages_theory.specs.Filling.{Prints, prints-in, prints-hold, written-lines}
+use Rattle.pages_theory.specs.PageLaws.{Prints, prints-in, prints-hold, written-lines}
 use Rattle.pages_theory.specs.WalkLines.{first-line, walked, last-prints, more-prints, member-length, moves-print}
 
 -- the numbers of a refused survey

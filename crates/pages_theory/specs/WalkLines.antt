@@ -35,7 +35,7 @@ use Rattle.text_theory.specs.declared.Line.{Line}
 use Rattle.text_theory.specs.declared.Line.the-variants.{Moved, End}
 use Rattle.pages_theory.specs.Pages.{Printing, textOf, halfOf, printingOf, isLast, callLine, called, behind}
 use Rattle.pages_theory.specs.Lengths.{setting-length, end-length, moved-length}
-use Rattle.pages_theory.specs.Filling.{Prints, ends, goes-on}
+use Rattle.pages_theory.specs.PageLaws.{Prints, ends, goes-on}
 
 -- ---- half of the digits that move
 record Half (count : ℕ) : Type 0 where

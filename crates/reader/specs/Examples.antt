@@ -17,7 +17,8 @@ pub numbers-read :
 unfolding numberOf isNumber allDigits valueFrom
 numbers-read = refl
 
--- before the newline a line goes on, unless a fourth digit or an empty field shows that it cannot be read; with it, it has counts
+-- before the newline a line goes on, unless a fourth digit or an empty field shows that it cannot be read; with it, it has
+-- counts
 abbrev foundOf : List ℕ → Found
 foundOf text = foundIn (read freshReader text .phase) (read freshReader text .kept)
 

@@ -17,7 +17,7 @@ use Rattle.reader.specs.Readers.{freshReader, fieldOf, inPhase, byteKept
 use Rattle.reader.specs.declared.Phase.{Phase}
 use Rattle.reader.specs.declared.Phase.the-variants.{More, Ended, Unread}
 use Rattle.reader.specs.declared.Reader.{Reader}
-use Rattle.reader.specs.declared.Found.the-variants.{Counts}
+use Rattle.reader.specs.declared.Found.the-variants.{More as FoundMore, Counts}
 
 -- an input that comes in two parts is read as one
 pub parts-read-as-one : (r : Reader) (a b : List ℕ) → read (read r a) b ≡ read r (a ++ b)
@@ -30,6 +30,15 @@ stays : (r : Reader) (input : List ℕ) → ((b : ℕ) → readIn (r .phase) r b
 unfolding read
 stays r [] h = refl
 stays r (b ∷ input) h = ap (λ q. read q input) (h b) ∙ stays r input h
+
+-- What has ended, or cannot be read, is not changed by any byte more: there is no need to read on.
+pub read-no-further : (r : Reader) (input : List ℕ) → (foundIn (r .phase) (r .kept) ≡ FoundMore → ⊥) → read r input ≡ r
+read-no-further r input done = by (r .phase) refl
+  where
+    by : (p : Phase) → r .phase ≡ p → read r input ≡ r
+    by More e = absurd (done (ap (λ p. foundIn p (r .kept)) e))
+    by Ended e = stays r input (λ b. ap (λ p. readIn p r b) e)
+    by Unread e = stays r input (λ b. ap (λ p. readIn p r b) e)
 
 -- ---- what is still to come
 -- a field that has begun, and the fields of the rest of its line

@@ -10,8 +10,9 @@ ghost use Rattle.runs_theory.specs.MoveCalls.{walkMovesCall, resumedMovesCall, 
 ghost use Rattle.runs.specs.Enums.{movesAs};
 ghost use Rattle.runs.specs.Stages.{movesOf};
 
-// At most t moves of a walk, whose state is not handed on. One function for both openings, so that the compiler puts the run into
-// it; where it took the opening's answer too, numbers of the run's loop were kept in memory, and a move took a tenth longer.
+// At most t moves of a walk, whose state is not handed on. One function for both openings, so that the compiler puts the run
+// into it; where it took the opening's answer too, numbers of the run's loop were kept in memory, and a move took a tenth
+// longer.
 fn run_moves(walk: Walk, t: u64, out: &mut [u8]) -> Running
     ensures { λ r. ⌜ movesAs r (now (out .exit)) ≡ movesOf (runOf (walkAs walk) t (now (out .entry))) ⌝ }
 {

@@ -1,4 +1,5 @@
--- What both engines write is held to the list, and so to each other: two controllers, one on each, send their motors the same moves.
+-- What both engines write is held to the list, and so to each other: two controllers, one on each, send their motors the same
+-- moves.
 use Prim.Native.Nat.{ℕ, zero, suc, _+_, _-_, _*_, _≤_, _<_}
 use native.Mathlib.Decide.{decLt}
 use native.Mathlib.Nat.{zero-add}
@@ -31,8 +32,8 @@ use Rattle.towers_theory.specs.DisksWalk.{disks-walk-the-list}
 use Rattle.runs_theory.specs.MoveCalls.{Moves, openedRun, walkMovesCall, diskMovesCall, listMoves}
 
 -- ---- what is written
--- the moves of the list after the first r: all that are asked for, where call d, which does not move, comes after them; else the d − 1
--- before it, and what stopped them
+-- the moves of the list after the first r: all that are asked for, where call d, which does not move, comes after them; else
+-- the d − 1 before it, and what stopped them
 abbrev pub firstMoves : List ℕ → ℕ → ℕ → ℕ → List ℕ
 firstMoves ms r d t = cond (ltb t d) (listMoves ms r t) (listMoves ms r (d - 1))
 
@@ -166,14 +167,14 @@ module _ (radices : List ℕ) (c : ℕ) (accepted : ahead.openOf ahead.closedWal
         halts = ends (walks .end (size ms) (omega arith)) refl;
       }
 
-  -- With half of n places, rounded up, the buffered engine writes the list's moves 1 to N − 1, or as many of them as are asked for;
-  -- it says end exactly where more are asked for.
+  -- With half of n places, rounded up, the buffered engine writes the list's moves 1 to N − 1, or as many of them as are asked
+  -- for; it says end exactly where more are asked for.
   pub walk-moves-are-the-lists : length (unlocked ms) ≤ 2 * c → (t : ℕ) (out : List ℕ)
       → walkMovesCall radices c t out ≡ writesFirst ms 0 (size ms) end t out
   walk-moves-are-the-lists places = walk-writes (size ms) end (ends-at-N places)
 
-  -- With fewer places there is a d from 1 to N: it writes the list's moves 1 to d − 1, or as many of them as are asked for, and where
-  -- more are asked for it has stopped with 10.
+  -- With fewer places there is a d from 1 to N: it writes the list's moves 1 to d − 1, or as many of them as are asked for, and
+  -- where more are asked for it has stopped with 10.
   pub walk-moves-run-dry : 2 * c < length (unlocked ms)
       → (d : ℕ)
       × (1 ≤ d)
@@ -192,8 +193,8 @@ module _ (radices : List ℕ) (c : ℕ) (accepted : ahead.openOf ahead.closedWal
             }),
       )
 
-  -- A run of t moves of a fresh walk with places enough, t at most N − 1, makes them all: its bytes are the list's first t changes, the
-  -- state is that after t calls, and nothing is said of the end.
+  -- A run of t moves of a fresh walk with places enough, t at most N − 1, makes them all: its bytes are the list's first t
+  -- changes, the state is that after t calls, and nothing is said of the end.
   pub fresh-run-writes-the-list : length (unlocked ms) ≤ 2 * c → (t : ℕ) (out : List ℕ)
       → t ≤ size ms - 1
       → t ≤ length out
@@ -241,8 +242,8 @@ walk-moves-begin-the-list radices c accepted =
     ]
 
 -- ---- the disk engine
--- It writes the list's moves 1 to N − 1 of every survey that it opens, or as many of them as are asked for; it says end exactly where
--- more are asked for.
+-- It writes the list's moves 1 to N − 1 of every survey that it opens, or as many of them as are asked for; it says end exactly
+-- where more are asked for.
 pub disk-moves-are-the-lists : (radices : List ℕ)
     → towers.openOf towers.closedTowers radices .answer ≡ given tt
     → (t : ℕ) (out : List ℕ)

@@ -1,4 +1,5 @@
--- What a walk that is picked up writes is the list's moves from there on, so that a survey may be stopped and gone on with elsewhere.
+-- What a walk that is picked up writes is the list's moves from there on, so that a survey may be stopped and gone on with
+-- elsewhere.
 use Prim.Native.Nat.{ℕ, zero, suc, _+_, _-_, _*_, _≤_, _<_}
 use native.Mathlib.Decide.{decLt}
 use native.Mathlib.Nat.{add-zero, zero-add}
@@ -81,8 +82,8 @@ module _ (radices : List ℕ) (c : ℕ) (word : List ℕ) (accepted : resumeOf a
       ap (λ (a : Answer Unit). openedRun a (ahead.runOf picked t out) out) accepted
       ∙ writes-first ahead.stepOf (digits radices) there picked d stop run walks.inRange (keeps .in-range 0) t out
 
-  -- A walk that is picked up with places enough writes the list's moves from the rank of its setting on, up to N − 1, or as many of them
-  -- as are asked for; it says end exactly where more are asked for.
+  -- A walk that is picked up with places enough writes the list's moves from the rank of its setting on, up to N − 1, or as
+  -- many of them as are asked for; it says end exactly where more are asked for.
   pub resumed-moves-are-the-lists : length (unlocked (digits radices)) ≤ 2 * c → (t : ℕ) (out : List ℕ)
       → resumedMovesCall radices c word t out ≡ writesFirst (digits radices) there (size (digits radices) - there) end t out
   resumed-moves-are-the-lists places =
@@ -96,8 +97,8 @@ module _ (radices : List ℕ) (c : ℕ) (word : List ℕ) (accepted : resumeOf a
         halts = ends (on .end (size ms - there) (omega arith)) refl;
       })
 
-  -- Whatever its capacity, it writes moves of the list, from that setting on without a gap: up to a call d, at most call N − rank, which
-  -- is the end or dry.
+  -- Whatever its capacity, it writes moves of the list, from that setting on without a gap: up to a call d, at most call N −
+  -- rank, which is the end or dry.
   pub resumed-moves-keep-to-the-list : (d : ℕ)
       × (stop : Stop)
       × (1 ≤ d)
@@ -130,8 +131,8 @@ list-moves-join ms i (suc j) t =
     (ap (λ (k : ℕ). listMoves ms (suc i) j ++ listMoves ms k t) e ∙ list-moves-join ms (suc i) j t)
     ∙ ap (listMoves ms i) f
 
--- Stopped and gone on: the setting that a walk from the start hands back after k moves, at most N − 1, is all that has to be kept. A walk
--- that is picked up there writes the moves after the first k, on any capacity that is enough.
+-- Stopped and gone on: the setting that a walk from the start hands back after k moves, at most N − 1, is all that has to be
+-- kept. A walk that is picked up there writes the moves after the first k, on any capacity that is enough.
 pub stopped-walks-go-on : (radices : List ℕ) (c c′ : ℕ)
     → ahead.openOf ahead.closedWalk radices c .answer ≡ given tt
     → ahead.openOf ahead.closedWalk radices c′ .answer ≡ given tt

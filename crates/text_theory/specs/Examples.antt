@@ -21,8 +21,8 @@ pub lines-read :
 unfolding inputAs lineAs firstLine hasNewline fields isCount allCounts isNumber allDigits valueFrom
 lines-read = refl
 
--- no newline; 256; four digits; a space in front, behind, two of them, one alone; the bytes before 0 and behind 9; a comma and a
--- tab for a space; a return before the newline; a count that is none behind one that is
+-- no newline; 256; four digits; a space in front, behind, two of them, one alone; the bytes before 0 and behind 9; a comma and
+-- a tab for a space; a return before the newline; a count that is none behind one that is
 pub lines-unread :
     map inputAs
     ([]

@@ -27,7 +27,8 @@ pub record Ends (s : Towers) (j : ℕ) : Type 0 where
   pub answers : answer s j ≡ given ended
   pub unchanged : state s j ≡ state s (j - 1)
 
--- call j moves disk i + 1 by the rules of the game: no smaller disk is on the peg that it leaves, nor on the one that it is put on
+-- call j moves disk i + 1 by the rules of the game: no smaller disk is on the peg that it leaves, nor on the one that it is put
+-- on
 pub record Allowed (s : Towers) (j i : ℕ) : Type 0 where
   pub top : (k : ℕ) → k < i → pegOf (state s (j - 1)) k ≡ pegOf (state s (j - 1)) i → ⊥
   pub lands : (k : ℕ) → k < i → pegOf (state s j) k ≡ pegOf (state s j) i → ⊥

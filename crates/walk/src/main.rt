@@ -1,6 +1,6 @@
 // Document 01's program: it reads one line of notch counts, sluice n first, and prints the walk through all settings, a line
-// each. The moves are the buffered engine's. What a line of input says is proved in `reader`, what is printed for it in `pages`:
-// here parts of the input are read, and pages written, one after the other.
+// each. The moves are the buffered engine's. What a line of input says is proved in `reader`, what is printed for it in
+// `pages`: here parts of the input are read, and pages written, one after the other.
 
 use pages::Printing;
 use reader::Found;

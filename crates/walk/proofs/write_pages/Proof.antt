@@ -1,5 +1,5 @@
--- `walk::write_pages` meets its contract: a page's text is within the page, and each page is one of a number that falls. Assumes
--- nothing.
+-- `walk::write_pages` meets its contract: a page's text is within the page, and each page is one of a number that falls.
+-- Assumes nothing.
 use Prim.Native.Nat.{_≤_}
 use mathlib.Core.Path.{_≡_, sym, ap, _∙_}
 use native.Mathlib.Omega.{arith}
@@ -8,7 +8,7 @@ use lib.ListN.{length}
 use lib.Seq.{length-take-le}
 use Rattle.pages.specs.Structs.{printingAs}
 use Rattle.pages_theory.specs.Pages.{Filled}
-use Rattle.pages_theory.specs.Filling.{filling-fits}
+use Rattle.pages_theory.specs.PageLaws.{filling-fits}
 use Rattle.walk.proofs.write_pages.Statement.{statement}
 use Rattle.walk.proofs.write_pages.Tie as tie
 

@@ -1,4 +1,5 @@
--- `pages::Printing::of_reader` meets its contract: what was found is printed; a reader keeps 49 counts at the most. Assumes nothing.
+-- `pages::Printing::of_reader` meets its contract: what was found is printed; a reader keeps 49 counts at the most. Assumes
+-- nothing.
 use mathlib.Core.Path.{_≡_, sym, ap, _∙_}
 use native.Mathlib.Omega.{arith}
 use lib.ListN.{length}

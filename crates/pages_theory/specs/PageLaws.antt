@@ -1,4 +1,5 @@
--- Pages one after the other: whole lines are put on a page while they fit, and the next page begins with the first that did not.
+-- Pages one after the other: whole lines are put on a page while they fit, and the next page begins with the first that did
+-- not.
 use Prim.Native.Nat.{ℕ, zero, suc, _-_, _≤_, _<_}
 use native.Mathlib.Omega.{arith}
 use native.Mathlib.Decide.{decLt}
