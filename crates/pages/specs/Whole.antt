@@ -3,7 +3,7 @@ use Prim.Native.Nat.{ℕ, _≤_}
 use native.Mathlib.Omega.{arith}
 use mathlib.Core.Path.{_≡_, refl, sym, ap, _∙_}
 use mathlib.Core.List.{List, []}
-use lib.ListN.{length, take, replicate, length-replicate}
+use lib.ListN.{length, take, length-replicate}
 use lib.Seq.{take-all}
 use Rattle.gray_theory.specs.Answers.{Answer, given, refused}
 use Rattle.gray_theory.specs.Calls.{sizeCall}
@@ -14,7 +14,7 @@ use Rattle.text_theory.specs.Output.{surveyText, inputText, output}
 use Rattle.text_theory.specs.Kept.{kept-counts-answer-alike}
 use Rattle.reader.specs.Readers.{freshReader, read, readerInput, upTo49}
 use Rattle.reader.specs.Reading.{reader-reads-the-line}
-use Rattle.pages_theory.specs.Pages.{begun, HoldsLines, written}
+use Rattle.pages_theory.specs.Pages.{begun, HoldsLines, buffer, written}
 use Rattle.pages_theory.specs.WalkLines.{first-line}
 use Rattle.pages_theory.specs.Printed.{pages-are-the-output, wide-pages-hold-every-line}
 
@@ -47,10 +47,9 @@ walk-prints-the-output input turns page holds many =
     ∙ kept-text (inputAs input)
 
 -- The buffer of document 01, 4,096 zero bytes, holds every line.
-pub through-4096-zero-bytes : (input : List ℕ) (turns : ℕ) → 4098 ≤ turns
-    → written turns (begun (readerInput (read freshReader input))) (replicate 4096 0) ≡ output input
-through-4096-zero-bytes input turns many =
-    let room : length (replicate 4096 0) ≡ 4096 = length-replicate 4096 0 in
-    walk-prints-the-output input turns (replicate 4096 0)
-    (wide-pages-hold-every-line (readerInput (read freshReader input)) (length (replicate 4096 0)) (omega arith))
+pub through-the-buffer : (input : List ℕ) (turns : ℕ) → 4098 ≤ turns
+    → written turns (begun (readerInput (read freshReader input))) buffer ≡ output input
+through-the-buffer input turns many =
+    walk-prints-the-output input turns buffer
+    (wide-pages-hold-every-line (readerInput (read freshReader input)) (length buffer) (simp length-replicate (omega arith)))
     (omega arith)

@@ -4,7 +4,7 @@ use Prim.Native.Nat.{ℕ, zero, suc, _+_, _-_, _/_, _≤_}
 use mathlib.Core.Bool.{Bool, true, false, cond}
 use mathlib.Core.List.{List, [], _++_}
 use lib.Dec.{eqb, ltb}
-use lib.ListN.{length, take, drop}
+use lib.ListN.{length, take, drop, replicate}
 use Rattle.gray_theory.specs.Answers.{Answer, given, refused}
 use Rattle.gray_theory.specs.Engines.{Event, moved, ended}
 use Rattle.gray_theory.specs.Locks.{unlocked}
@@ -126,6 +126,10 @@ filling p page =
       last = made .last;
       page = made .text ++ drop (length (made .text)) page;
     }
+
+-- the page of `walk`: a buffer of 4,096 zero bytes
+abbrev pub buffer : List ℕ
+buffer = replicate 4096 0
 
 -- what is written of at most `turns` pages: of each the bytes that are used, and then the next, filled over it
 unfoldable pub written : ℕ → Printing → List ℕ → List ℕ
