@@ -40,24 +40,28 @@ use Rattle.ahead_theory.specs.Standing.{Placed, stepsTo, placed-setting,
 use Rattle.ahead_theory.specs.Tallies.{Tallied, tally-finished}
 use Rattle.ahead_theory.specs.Phases.{Still, still-on, Going, Dry, Ending, Phase, Phase.going, Phase.dried, Phase.over, phase}
 
--- ---- no refusal 7
-removal-given : (w : Walk) (b : Bool) (k j : ℕ) (p : Producer) → cond b (endOf w p) (moveOf w k p) .answer ≡ refused j → ⊥
+-- ---- no refusal but 10
+removal-given : (w : Walk) (b : Bool) (k x : ℕ) (p : Producer) → cond b (endOf w p) (moveOf w k p) .answer ≡ refused x → ⊥
 unfolding endOf moveOf
-removal-given w true k j p e = impossible (cc)
-removal-given w false k j p e = impossible (cc)
+removal-given w true k x p e = impossible (cc)
+removal-given w false k x p e = impossible (cc)
 
--- a call on a state in range is not refused with 7
-not-7 : (w : Walk) → inRange w ≡ true → stepOf w .answer ≡ refused 7 → ⊥
+-- a call on a state in range is refused with 10, if it is, so that none gets 7
+pub only-dry : (w : Walk) → inRange w ≡ true → (x : ℕ) → stepOf w .answer ≡ refused x → x ≡ 10
 unfolding stepOf course
-not-7 w r e = by (w .ended) (eqb (twice w .queued) 0) (rw r at e)
+only-dry w r x e = by (w .ended) (eqb (twice w .queued) 0) (rw r at e)
   where
-    by : (over empty : Bool) → stepBy w (cond over Course.over (cond empty Course.dry Course.removing)) .answer ≡ refused 7 → ⊥
+    by : (over empty : Bool) → stepBy w (cond over Course.over (cond empty Course.dry Course.removing)) .answer ≡ refused x → x ≡ 10
     by true empty e = impossible (cc)
-    by false true e = let z : _≡_ {A = ℕ} 10 7 = cc in omega arith
+    by false true e = let z : 10 ≡ x = cc in sym z
     by false false e =
-        removal-given w (eqb (getD (twice w .queue) 0 0) (w .directed .moving .count + 1)) (getD (w .directed .moving .digits) (getD (twice w .queue) 0 0 - 1) 0) 7
+        absurd
+        (removal-given w (eqb (getD (twice w .queue) 0 0) (w .directed .moving .count + 1)) (getD (w .directed .moving .digits) (getD (twice w .queue) 0 0 - 1) 0) x
         (dequeued (twice w))
-        e
+        e)
+
+not-7 : (w : Walk) → inRange w ≡ true → stepOf w .answer ≡ refused 7 → ⊥
+not-7 w r e = let z = only-dry w r 7 e in omega arith
 
 -- ---- the states of a run
 -- the rest of a run stands still

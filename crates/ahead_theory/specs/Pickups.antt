@@ -7,9 +7,10 @@ use lib.Dec.{eqb, ltb}
 use lib.ListN.{length, getD, replicate}
 use Rattle.gray_theory.specs.Answers.{Answer, given, refusing}
 use Rattle.gray_theory.specs.Radices.{digits, mixedDigits}
+use Rattle.gray_theory.specs.DirectedWords.{directedOn}
 use Rattle.gray_theory.specs.Words.{isWord, rank}
 use Rattle.gray_theory.specs.Arrays.{filled}
-use Rattle.gray_theory.specs.Locks.{unlocked, movingDigits}
+use Rattle.gray_theory.specs.Locks.{unlocked}
 use Rattle.gray_theory.specs.Capacities.{ofSurvey}
 use Rattle.gray_theory.specs.Directions.{allBelow}
 use Rattle.gray_theory.specs.Engines.{Handed, openWith}
@@ -62,14 +63,7 @@ downsFromStart ms r = state (fresh ms 32) r .directed .downs
 -- the state at a setting: j is its rank
 abbrev pub standing : List ℕ → ℕ → List ℕ → ℕ → Walk
 standing ms c word r = record {
-  directed =
-      record {
-        radices = filled 48 0 ms;
-        n = length ms;
-        moving = movingDigits ms;
-        word = filled 48 0 word;
-        downs = downsFromStart ms r;
-      };
+  directed = directedOn ms (filled 48 0 word) (downsFromStart ms r);
   producer = filledAt (unlocked ms) c r;
   capacity = c;
   moves = r;

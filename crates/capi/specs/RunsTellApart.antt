@@ -1,15 +1,14 @@
 -- What a run can say, of a walk from the start, of one that is picked up, or by the disk engine: all moves made, the end, dry,
 -- or refused by a number below 10. So a caller can tell how a run went by its code and the number of its moves
 -- (`codes-tell-runs-apart`).
-use Prim.Native.Nat.{ℕ, _+_, _-_}
+use Prim.Native.Nat.{ℕ}
 use native.Mathlib.Decide.{decLt}
 use native.Mathlib.Omega.{arith}
 use mathlib.Core.Path.{_≡_, refl, sym, subst, ap, _∙_}
-use mathlib.Core.Bool.{Bool, true, false, cond, not}
+use mathlib.Core.Bool.{Bool, true, not}
 use mathlib.Core.List.{List}
 use mathlib.Core.Option.{Option, none, some}
-use lib.Dec.{eqb}
-use lib.ListN.{length, getD}
+use lib.ListN.{length}
 use Rattle.gray_theory.specs.Answers.{Answer, given, refused}
 use Rattle.gray_theory.specs.Radices.{digits}
 use Rattle.gray_theory.specs.Words.{isWord}
@@ -22,6 +21,7 @@ use Rattle.gray_theory.specs.SingleCalls.{run-in-range-is-made, run-into-shorte
 use Rattle.ahead_theory.specs.States as walks
 use Rattle.ahead_theory.specs.Calls as ahead
 use Rattle.ahead_theory.specs.Pickups as pickups
+use Rattle.ahead_theory.specs.Clauses.{only-dry}
 use Rattle.ahead_theory.specs.WorkAhead.{fresh-walks-stay-in-range}
 use Rattle.ahead_theory.specs.PickedUp.{picked-up-walks-keep-to-the-list}
 use Rattle.towers_theory.specs.States as games
@@ -69,23 +69,7 @@ opened-run-tells (refused k) (refused l) run out same (numbered one nine) tells 
     let same-number : k ≡ l = cc in Tells.number {k = k} (omega arith) (omega arith)
 
 -- ---- the buffered engine
--- a removal is not refused
-removal-given : (w : walks.Walk) (last : Bool) (k x : ℕ) (p : walks.Producer) → cond last (ahead.endOf w p) (ahead.moveOf w k p) .answer ≡ refused x → x ≡ 10
-unfolding ahead.endOf ahead.moveOf
-removal-given w true k x p e = impossible (cc)
-removal-given w false k x p e = impossible (cc)
-
--- a call on a state in range is refused by 10 alone
-only-dry : (w : walks.Walk) → walks.inRange w ≡ true → (x : ℕ) → ahead.stepOf w .answer ≡ refused x → x ≡ 10
-unfolding ahead.stepOf ahead.course
-only-dry w ranged x e = by (w .ended) (eqb (ahead.twice w .queued) 0) (rw ranged at e)
-  where
-    by : (over empty : Bool) → ahead.stepBy w (cond over ahead.Course.over (cond empty ahead.Course.dry ahead.Course.removing)) .answer ≡ refused x → x ≡ 10
-    by true empty f = impossible (cc)
-    by false true f = let z : 10 ≡ x = cc in sym z
-    by false false f = removal-given w (eqb (getD (ahead.twice w .queue) 0 0) (w .directed .moving .count + 1)) (getD (w .directed .moving .digits) (getD (ahead.twice w .queue) 0 0 - 1) 0) x (ahead.dequeued (ahead.twice w)) f
-
--- so a walk whose states are all in range tells how a run of it went
+-- a walk whose states are all in range is refused by 10 alone, so it tells how a run of it went
 walk-tells : (w : walks.Walk) → ((j : ℕ) → walks.inRange (after ahead.stepOf w j) ≡ true) → (t : ℕ) (out : List ℕ) → Tells (ahead.runOf w t out .answer)
 unfolding after
 walk-tells w ranged t out = run-tells walks.inRange ahead.stepOf w (ranged 0) (λ j x. only-dry (after ahead.stepOf w j) (ranged j) x) t out

@@ -38,6 +38,16 @@ movingIn d = unlocked (surveyIn d)
 abbrev pub settingIn : DirectedWord → List ℕ
 settingIn d = take (d .n) (d .word)
 
+-- of a survey: its radices with zeros after them, the digits that move, and these two arrays
+abbrev pub directedOn : List ℕ → List ℕ → List Bool → DirectedWord
+directedOn ms word downs = record {
+  radices = filled 48 0 ms;
+  n = length ms;
+  moving = movingDigits ms;
+  word = word;
+  downs = downs;
+}
+
 -- ---- a fresh one: the word all 0, directions all up
 abbrev pub freshWith : List ℕ → ℕ → MovingDigits → DirectedWord
 freshWith radices n moving = record {

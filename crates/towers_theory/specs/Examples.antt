@@ -5,13 +5,13 @@ use mathlib.Core.Path.{_≡_, refl}
 use mathlib.Core.Bool.{Bool, true, false}
 use mathlib.Core.List.{List, [], _∷_, map}
 use mathlib.Core.Option.{none, some}
-use lib.ListN.{length, replicate}
+use lib.ListN.{replicate}
 use Rattle.gray_theory.specs.Answers.{given, refused}
 use Rattle.gray_theory.specs.Radices.{size, allFrom}
 use Rattle.gray_theory.specs.Arrays.{filled}
-use Rattle.gray_theory.specs.Locks.{unlocked, moving, movingDigits, movingInRange}
+use Rattle.gray_theory.specs.Locks.{unlocked, moving, movingInRange}
 use Rattle.gray_theory.specs.Directions.{allBelow}
-use Rattle.gray_theory.specs.DirectedWords.{wordInRange, digitMoved}
+use Rattle.gray_theory.specs.DirectedWords.{wordInRange, digitMoved, directedOn}
 use Rattle.gray_theory.specs.Engines.{moved, ended, refusedWith}
 use Rattle.towers_theory.specs.States.{Towers, allOdd, allEvenAndEqual, openCheck, inRange}
 use Rattle.towers_theory.specs.Choices.{pegOf, smallest, chosen}
@@ -21,14 +21,7 @@ use Rattle.towers_theory.specs.Calls.{moveOf, stepOf}
 -- on a survey, with this word and these directions, turn and pegs
 abbrev game : List ℕ → List ℕ → List Bool → ℕ → List ℕ → Towers
 game ms word downs turn pegs = record {
-  directed =
-      record {
-        radices = filled 48 0 ms;
-        n = length ms;
-        moving = movingDigits ms;
-        word = filled 48 0 word;
-        downs = filled 48 false downs;
-      };
+  directed = directedOn ms (filled 48 0 word) (filled 48 false downs);
   turn = turn;
   pegs = filled 48 0 pegs;
 }
