@@ -10,7 +10,8 @@ use lib.ListN.{length, getD, set, take, drop, length-map, List·getD-append}
 use lib.Seq.{length-take-le, getD-take, getD-at}
 use Rattle.gray_theory.specs.Answers.{given}
 use Rattle.gray_theory.specs.Unlocked.{looked-up-at}
-use Rattle.gray_theory.specs.Directions.{digitInRange}
+use Rattle.gray_theory.specs.Directions.{movedFrom, digitInRange}
+use Rattle.gray_theory.specs.WordRanges.{entry-written}
 use Rattle.gray_theory.specs.DirectedWords.{DirectedWord, digitMoved}
 use Rattle.digit.specs.Advances.{advancedFrom, digit-advanced}
 use Rattle.gray_theory.specs.Engines.{moved, ended, refusedWith}
@@ -166,7 +167,7 @@ module _ (w : Walk) (k : ℕ) (ok : DigitToMove w k) (place : ℕ) (wide : place
               moves = w .moves + 1;
               ended = false;
             };
-        answer = given (moved (record { digit = k; down = getD (d .downs) (place - 1) false }));
+        answer = given (moved (record { digit = k; down = getD (d .downs) (place - 1) false }) (to .digit));
       }
       ≡ moveOf w k p
   unfolding moveOf digitMoved
@@ -178,7 +179,10 @@ module _ (w : Walk) (k : ℕ) (ok : DigitToMove w k) (place : ℕ) (wide : place
       (digitInRange (getD (d .radices) (place - 1) 0) (getD (d .word) (place - 1) 0) (getD (d .downs) (place - 1) false))
       .1
       (le-leb 2 (getD (d .radices) (place - 1) 0) (rw wide (ok .digit .two)), digit-ranged)) in
-      rw (made, wide)
+      let long = ok .rooms .word in
+      let most = ok .word .most in
+      rw
+      (made, wide, entry-written (d .word) (d .n) (k - 1) (movedFrom (getD (d .word) (k - 1) 0) (getD (d .downs) (k - 1) false)) (omega arith) (omega arith))
 
 -- ---- step
 -- a call whose state is out of range, or has ended

@@ -136,7 +136,7 @@ impl Walk {
         };
         Stepped {
             walk: walk,
-            answer: Stepping::Moved(k, down),
+            answer: Stepping::Moved(k, down, to.digit),
         }
     }
 }

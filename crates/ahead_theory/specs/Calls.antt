@@ -6,8 +6,8 @@ use lib.Dec.{eqb}
 use lib.ListN.{getD, drop, replicate}
 use Rattle.gray_theory.specs.Answers.{given}
 use Rattle.gray_theory.specs.Radices.{digits}
-use Rattle.gray_theory.specs.DirectedWords.{DirectedWord, freshWord, digitMoved, changeBy}
-use Rattle.gray_theory.specs.Engines.{Event, moved, ended, Handed, refusedWith, openWith}
+use Rattle.gray_theory.specs.DirectedWords.{DirectedWord, freshWord, digitMoved, eventBy}
+use Rattle.gray_theory.specs.Engines.{Event, ended, Handed, refusedWith, openWith}
 use Rattle.gray_theory.specs.RunCalls.{Running, runWith}
 use Rattle.ahead_theory.specs.States.{Producer, Walk, movingRadices, openCheck, inRange}
 use Rattle.ahead_theory.specs.Work.{work}
@@ -78,7 +78,7 @@ unfoldable pub moveOf : Walk → ℕ → Producer → Handed Walk Event
 moveOf w k p = record {
   state =
       record { directed = digitMoved (w .directed) k; producer = p; capacity = w .capacity; moves = w .moves + 1; ended = false };
-  answer = given (moved (changeBy (w .directed) k));
+  answer = given (eventBy (w .directed) k);
 }
 
 -- the oldest entry k is removed: one more than the digits that move ends the walk, any other is turned back into the number of

@@ -14,9 +14,8 @@ use Rattle.gray_theory.specs.Answers.{given, refused}
 use Rattle.gray_theory.specs.Bools.{impossible}
 use Rattle.gray_theory.specs.Radices.{size, mixedDigits}
 use Rattle.gray_theory.specs.Words.{member}
-use Rattle.gray_theory.specs.Changes.{change}
 use Rattle.gray_theory.specs.Costs.{cost}
-use Rattle.gray_theory.specs.Engines.{moved, ended, after}
+use Rattle.gray_theory.specs.Engines.{moveAt, ended, after}
 use Rattle.gray_theory.specs.Locks.{unlocked}
 use Rattle.gray_theory.specs.Unlocked.{unlocked-two, size-unlocked}
 use Rattle.gray_theory.specs.Rulers.{ruler-pos}
@@ -273,7 +272,7 @@ module _ (ms : List ℕ) (c : ℕ) (v : Openable ms c) where
     names-change : (t : ℕ) → NamesFrom ms 0 (fresh ms c) t → NamesChange ms (fresh ms c) t
     names-change t n =
         record {
-          answers = n .answers ∙ ap (λ (j : ℕ). given (moved (change ms j))) (zero-add t);
+          answers = n .answers ∙ ap (λ (j : ℕ). given (moveAt ms j)) (zero-add t);
           hands-back = n .hands-back ∙ ap (member ms) (zero-add t);
         }
 

@@ -187,7 +187,7 @@ pub record MadeUpCalls : Type 0 where
   pub ends-at-its-entry : stepOf (walk (made (2 ∷ 1 ∷ 1 ∷ []) 3 (3 ∷ 1 ∷ []) 2 4) 2 2 false)
       ≡ record { state = walk (made (2 ∷ 1 ∷ 1 ∷ []) 3 (1 ∷ []) 1 4) 2 2 true; answer = given ended }
   -- an entry of a digit at j = N − 1 moves it, and j becomes N; the next call gets 7
-  pub moves-at-the-last-rank : stepOf last ≡ record { state = past; answer = given (moved (record { digit = 3; down = true })) }
+  pub moves-at-the-last-rank : stepOf last ≡ record { state = past; answer = given (moved (record { digit = 3; down = true }) 0) }
   pub gets-7-past-it : stepOf past ≡ refusedWith 7 past
   -- a dry call hands back the state as it came, its counter too
   pub dry-at-an-empty-queue : stepOf empty ≡ refusedWith 10 empty

@@ -9,15 +9,14 @@ use Rattle.gray_theory.specs.Answers.{given, refused}
 use Rattle.gray_theory.specs.Radices.{size}
 use Rattle.gray_theory.specs.Words.{member}
 use Rattle.gray_theory.specs.Locks.{unlocked}
-use Rattle.gray_theory.specs.Changes.{change}
-use Rattle.gray_theory.specs.Engines.{moved, ended}
+use Rattle.gray_theory.specs.Engines.{moveAt, ended}
 use Rattle.ahead_theory.specs.States.{Producer, Walk, setting, inRange}
 use Rattle.ahead_theory.specs.Events.{state, answer}
 use Rattle.ahead_theory.specs.Demand.{Within}
 
--- call t names change r + t: it answers that digit and direction, and hands back the setting of rank r + t
+-- call t names change r + t: it answers that digit and direction, and the notch, and hands back the setting of rank r + t
 pub record NamesFrom (ms : List ℕ) (r : ℕ) (w : Walk) (t : ℕ) : Type 0 where
-  pub answers : answer w t ≡ given (moved (change ms (r + t)))
+  pub answers : answer w t ≡ given (moveAt ms (r + t))
   pub hands-back : setting (state w t) ≡ member ms (r + t)
 
 -- from the setting of rank r, calls 1, 2, .. name changes r + 1, r + 2, .. up to N − 1, and j counts them; call N − r and every later

@@ -13,7 +13,7 @@ use Rattle.gray_theory.specs.MoveBytes.{moveByte}
 use Rattle.gray_theory.specs.Changes.{Change}
 use Rattle.gray_theory.specs.Engines.{moved, ended, refusedWith}
 use Rattle.gray_theory.specs.Directions.{digitInRange, wordMoved, downsMoved}
-use Rattle.gray_theory.specs.DirectedWords.{digitMoved}
+use Rattle.gray_theory.specs.DirectedWords.{digitMoved, changeBy, eventBy}
 use Rattle.gray_theory.specs.Locks.{unlocked}
 use Rattle.gray_theory.specs.Sizes.{radix-two}
 use Rattle.gray_theory.specs.DigitRanges.{allBelow-each, digit-says, DigitRange}
@@ -74,8 +74,8 @@ module _
 -- what a call leaves on the lists, after h removals before it, and what the engine's call says of the state w then
 pub data Answered (w₀ w : Walk) (h : ℕ) (tops : List ℕ) (r : Called) : Type 0 where
   moves : r .kind ≡ 0
-      → (c : Change)
-      → stepOf w .answer ≡ given (moved c)
+      → (c : Change) (notch : ℕ)
+      → stepOf w .answer ≡ given (moved c notch)
       → r .byte ≡ moveByte (c .digit) (c .down)
       → stepOf w .state .ended ≡ false
       → stepOf w .state .moves ≡ w .moves + 1
@@ -249,7 +249,7 @@ module _
             (d - 1)
             (omega arith)))
 
-        move-says : stepOf w .answer ≡ given (moved (record { digit = d; down = getD (w .directed .downs) (d - 1) false }))
+        move-says : stepOf w .answer ≡ given (eventBy (w .directed) d)
         unfolding moveOf
         move-says = ap (λ s. s .answer) moves-here
 
@@ -326,7 +326,7 @@ module _
                 | no other ↦
                     let (on, made) = move-leaves some other in
                     rw (ne-eqb (g .tail) h some, ne-eqb entry last other)
-                    (moves refl (record { digit = d some other; down = getD (w .directed .downs) (d some other - 1) false })
+                    (moves refl (changeBy (w .directed) (d some other)) _
                     (move-says some other)
                     (byte-there some other)
                     on

@@ -105,17 +105,17 @@ module _ (w₀ : Walk) (tops : List ℕ) (done h : ℕ) where
     bytes = r .bytes;
   }
 
-  moves-first : (limit b : ℕ) (r : FastRan) (ch : Change)
-      → stepOf (state w₀ done) .answer ≡ given (moved ch)
+  moves-first : (limit b : ℕ) (r : FastRan) (ch : Change) (notch : ℕ)
+      → stepOf (state w₀ done) .answer ≡ given (moved ch notch)
       → b ≡ moveByte (ch .digit) (ch .down)
       → IsRun w₀ (done + 1) limit (h + 1) tops r
       → IsRun w₀ done (suc limit) h tops (then b r)
-  moves-first limit b r ch says byte s =
+  moves-first limit b r ch notch says byte s =
       record {
         more = λ prior m.
             subst (λ (j : ℕ). Moved stepOf w₀ j (prior ++ (b ∷ r .written))) i
             (subst (Moved stepOf w₀ (done + 1 + length (r .written))) (append-assoc prior (b ∷ []) (r .written))
-            (s .more (prior ++ (b ∷ [])) (moved-more stepOf w₀ done prior ch b m says byte)));
+            (s .more (prior ++ (b ∷ [])) (moved-more stepOf w₀ done prior ch notch b m says byte)));
         halted = by (s .halted);
       }
     where
@@ -157,9 +157,9 @@ module _ (w₀ : Walk) (tops : List ℕ) (done h : ℕ) where
         → Stands w₀ (state w₀ (done + 1)) (h + 1) tops (r .left) (r .bytes) (r .fast)
         → IsRun w₀ (done + 1) limit (h + 1) tops rest)
         → IsRun w₀ done (suc limit) h tops (fastThen h r rest)
-    goes-on limit r rest (calls.moves z ch says byte on made st) next =
+    goes-on limit r rest (calls.moves z ch notch says byte on made st) next =
         rw (ne-eqb (r .kind) 2 (λ e. absurd (omega arith)), ne-eqb (r .kind) 1 (λ e. absurd (omega arith)))
-        (moves-first limit (r .byte) rest ch says byte
+        (moves-first limit (r .byte) rest ch notch says byte
         (next (way-on on made)
         (subst (λ (w : Walk). Stands w₀ w (h + 1) tops (r .left) (r .bytes) (r .fast)) (sym (next-state w₀ done)) st)))
     goes-on limit r rest (calls.ends z says over made st) next =

@@ -12,8 +12,7 @@ use Rattle.gray_theory.specs.Answers.{given, refused}
 use Rattle.gray_theory.specs.Radices.{size}
 use Rattle.gray_theory.specs.Costs.{cost}
 use Rattle.gray_theory.specs.Words.{member}
-use Rattle.gray_theory.specs.Changes.{change}
-use Rattle.gray_theory.specs.Engines.{Event, moved, ended, Handed, refusedWith, after}
+use Rattle.gray_theory.specs.Engines.{Event, moveAt, ended, Handed, refusedWith, after}
 use Rattle.gray_theory.specs.Capacities.{Openable}
 use Rattle.ahead_theory.specs.States.{Walk}
 use Rattle.ahead_theory.specs.Work.{Work}
@@ -229,7 +228,7 @@ module _
           record { s = stepsAfter o; k = k′; p = o .p₂; at = removed-at; below = more; low = omega arith; is-state = there } in
           let name : NamesFrom ms r w (suc t) =
           record {
-            answers = says ∙ ap (λ (i : ℕ). given (moved (change ms i))) (sym rank);
+            answers = says ∙ ap (λ (i : ℕ). given (moveAt ms i)) (sym rank);
             hands-back = placed-setting ms c (suc j) (state w (suc t)) place ∙ ap (member ms) (sym rank);
           } in
           record {

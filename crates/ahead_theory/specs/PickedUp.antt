@@ -12,7 +12,6 @@ use lib.ListN.{length}
 use Rattle.gray_theory.specs.Answers.{Answer, given, refused, refusing}
 use Rattle.gray_theory.specs.Radices.{digits, size}
 use Rattle.gray_theory.specs.Words.{isWord, rank}
-use Rattle.gray_theory.specs.Changes.{change}
 use Rattle.gray_theory.specs.Ranks.{rank-below, wordAt-of-rank}
 use Rattle.gray_theory.specs.Arrays.{filled}
 use Rattle.gray_theory.specs.Locks.{unlocked}
@@ -22,7 +21,7 @@ use Rattle.gray_theory.specs.Unlocked.{size-unlocked}
 use Rattle.gray_theory.specs.Capacities.{Openable}
 use Rattle.gray_theory.specs.Refusals.{passed, within-openable, openable-passes, refused-alike}
 use Rattle.gray_theory.specs.Openings.{opening-answers-its-check, accepted-opening-opens, refused-opening-keeps}
-use Rattle.gray_theory.specs.Engines.{moved, ended}
+use Rattle.gray_theory.specs.Engines.{moveAt, ended}
 use Rattle.ahead_theory.specs.States.{Walk, openCheck}
 use Rattle.ahead_theory.specs.Calls.{fresh, openOf}
 use Rattle.ahead_theory.specs.Events.{state, answer}
@@ -116,7 +115,7 @@ module _ (ms : List ℕ) (c : ℕ) (v : Openable ms c) (word : List ℕ) (is-wor
         elim (decLt (r + t) (size ms)) [
           | yes more ↦
               g .moves t low more .answers
-              ∙ ap (λ (j : ℕ). given (moved (change ms j))) (sym (zero-add (r + t)))
+              ∙ ap (λ (j : ℕ). given (moveAt ms j)) (sym (zero-add (r + t)))
               ∙ sym (f .moves (r + t) (omega arith) (omega arith) .answers)
           | no past ↦ g .end t (omega arith) ∙ sym (f .end (r + t) (omega arith))
         ]

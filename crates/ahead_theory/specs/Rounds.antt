@@ -8,14 +8,14 @@ use mathlib.Core.List.{List, [], _∷_, _++_}
 use lib.ListN.{length, getD, drop}
 use Rattle.gray_theory.specs.Answers.{given}
 use Rattle.gray_theory.specs.Radices.{size, mixedDigits}
-use Rattle.gray_theory.specs.Changes.{Change, change, ruler}
+use Rattle.gray_theory.specs.Changes.{ruler}
 use Rattle.gray_theory.specs.Locks.{unlocked, movingDigits}
 use Rattle.gray_theory.specs.Unlocked.{size-unlocked, unlocked-two, length-moving, entry-number, moving-stored}
 use Rattle.gray_theory.specs.Rulers.{ruler-pos, ruler-at-end}
 use Rattle.gray_theory.specs.Turns.{Advances, walk-advances}
-use Rattle.gray_theory.specs.Engines.{moved, ended}
+use Rattle.gray_theory.specs.Engines.{Event, moveAt, ended}
 use Rattle.gray_theory.specs.Arrays.{filled}
-use Rattle.gray_theory.specs.WordRanges.{survey-at, directed-moves, directed-change}
+use Rattle.gray_theory.specs.WordRanges.{survey-at, directed-moves, directed-event}
 use Rattle.gray_theory.specs.Filled.{filled-drop}
 use Rattle.ahead_theory.specs.States.{Producer, Walk, movingRadices, places, inRange}
 use Rattle.ahead_theory.specs.Work.{Work, kind, done, work}
@@ -109,12 +109,12 @@ move-is : (ms : List ℕ) (c t i : ℕ) (q left : Producer)
     → Advances ms t i
     → suc t < size ms
     → moveOf (walkAt ms c t false q) (suc i) left
-    ≡ record { state = walkAt ms c (suc t) false left; answer = given (moved (change ms (suc t))) }
+    ≡ record { state = walkAt ms c (suc t) false left; answer = given (moveAt ms (suc t)) }
 unfolding moveOf
 move-is ms c t i q left a below =
-    ap₂ (λ (u : Walk) (n : Change). record { state = u; answer = given (moved n) })
+    ap₂ (λ (u : Walk) (e : Event). record { state = u; answer = given e })
     (same-walk (directed-moves ms t i a) refl (add-one t))
-    (directed-change ms t i a below)
+    (directed-event ms t i a below)
 
 -- ---- one call
 -- a call on a running state goes as its queue has it after the two work steps
@@ -151,7 +151,7 @@ module _ (ms : List ℕ) (c : ℕ) (v : Openable ms c) (s t k p : ℕ) (at : Pos
     -- it is a digit's: the change of the list
     pub move-call : suc t < size ms
         → stepOf (running ms c s t k p)
-        ≡ record { state = running ms c (stepsAfter r) (suc t) k′ (r .p₂); answer = given (moved (change ms (suc t))) }
+        ≡ record { state = running ms c (stepsAfter r) (suc t) k′ (r .p₂); answer = given (moveAt ms (suc t)) }
     move-call more =
         let (i, a) = walk-advances ms (v .survey .one) t more in
         let entry = getD (twice (running ms c s t k p) .queue) 0 0 in

@@ -282,9 +282,10 @@ fn print_opening(answer: Opening) {
 
 fn print_stepping(answer: Stepping) {
     match answer {
-        Stepping::Moved(digit, down) => {
+        Stepping::Moved(digit, down, notch) => {
             print_byte(b": moved ", digit);
             print_direction(down);
+            print_byte(b" to ", notch);
         }
         Stepping::End => print(b": end"),
         Stepping::Refused(k) => print_refused(k),

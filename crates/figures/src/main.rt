@@ -190,8 +190,8 @@ fn is_next(from: u8, to: u8, down: bool) -> bool {
     }
 }
 
-// Whether digit k goes one notch, down or up, from one word to the other, and every other digit stays.
-fn leads(from: &[u8], to: &[u8], k: u8, down: bool) -> bool {
+// Whether digit k goes one notch, down or up, from one word to that notch in the other, and every other digit stays.
+fn leads(from: &[u8], to: &[u8], k: u8, down: bool, notch: u8) -> bool {
     if k == 0 {
         return false;
     }
@@ -203,19 +203,19 @@ fn leads(from: &[u8], to: &[u8], k: u8, down: bool) -> bool {
     let new = digit::reversed(to);
     let goes = is_next(setting[i], new[i], down);
     setting[i] = new[i];
-    goes & is_setting_of(setting, to)
+    (goes & (notch == new[i])) & is_setting_of(setting, to)
 }
 
 // Whether the answer is the move from a word to the one that `rest` starts with.
 fn is_move(answer: Stepping, word: &[u8], rest: &[u8]) -> bool {
-    let Stepping::Moved(k, down) = answer else {
+    let Stepping::Moved(k, down, notch) = answer else {
         return false;
     };
     let n = word.len();
     if rest.len() < n {
         return false;
     }
-    leads(word, &rest[..n], k, down)
+    leads(word, &rest[..n], k, down, notch)
 }
 
 fn is_end(answer: Stepping) -> bool {

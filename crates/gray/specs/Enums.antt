@@ -33,7 +33,7 @@ openingAs Open = given tt
 openingAs (OpenRefused k) = refused k
 
 abbrev pub steppingAs : Stepping → Answer Event
-steppingAs (Moved k d) = given (moved (record { digit = k; down = d }))
+steppingAs (Moved k d a) = given (moved (record { digit = k; down = d }) a)
 steppingAs End = given ended
 steppingAs (StepRefused k) = refused k
 

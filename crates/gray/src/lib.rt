@@ -36,9 +36,10 @@ pub enum Opening {
     Refused(u8),
 }
 
-// What a call of an engine answers: the digit that it moved and whether that went down, the end of the walk, or a refusal.
+// What a call of an engine answers: the digit that it moved, whether that went down, and the notch that it has come to; the end
+// of the walk; or a refusal.
 pub enum Stepping {
-    Moved(u8, bool),
+    Moved(u8, bool, u8),
     End,
     Refused(u8),
 }

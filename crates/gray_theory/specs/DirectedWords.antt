@@ -9,9 +9,11 @@ use lib.Dec.{leb}
 use lib.ListN.{length, getD, take, replicate}
 use Rattle.gray_theory.specs.Answers.{Answer, isGiven}
 use Rattle.gray_theory.specs.Arrays.{filled}
+use Rattle.gray_theory.specs.Words.{notchOf}
 use Rattle.gray_theory.specs.Changes.{Change}
 use Rattle.gray_theory.specs.Locks.{MovingDigits, unlocked, movingDigits, movingInRange}
 use Rattle.gray_theory.specs.Directions.{wordMoved, downsMoved, digitsInRange}
+use Rattle.gray_theory.specs.Engines.{Event, moved}
 
 -- the survey (radices and their number n), the digits that move, in rising order, the word, and the directions (down or not)
 pub record DirectedWord : Type 0 where
@@ -83,3 +85,8 @@ digitMoved d k = record {
 -- the change that it is
 abbrev pub changeBy : DirectedWord → ℕ → Change
 changeBy d k = record { digit = k; down = getD (d .downs) (k - 1) false }
+
+-- what the call that makes it says: the change, and the digit's notch in the setting that it leaves (document 02, "A move names the
+-- notch it reaches")
+abbrev pub eventBy : DirectedWord → ℕ → Event
+eventBy d k = moved (changeBy d k) (notchOf (settingIn (digitMoved d k)) k)

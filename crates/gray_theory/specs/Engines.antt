@@ -2,14 +2,16 @@
 -- handed back.
 use Prim.Native.Nat.{ℕ, zero, suc, _-_}
 use mathlib.Core.Path.{_≡_}
+use mathlib.Core.Bool.{true, false}
 use mathlib.Core.List.{List}
 use Rattle.gray_theory.specs.Answers.{Answer, given, refused}
-use Rattle.gray_theory.specs.Words.{member}
-use Rattle.gray_theory.specs.Changes.{Change, change}
+use Rattle.gray_theory.specs.Words.{member, notchOf}
+use Rattle.gray_theory.specs.Changes.{Change, Moves, change}
 
--- what an accepted call of an engine says: the change that it made, or that the walk has ended
+-- what an accepted call of an engine says: the change that it made and the notch that its digit has come to (document 02, "A move
+-- names the notch it reaches"), or that the walk has ended
 pub data Event : Type 0 where
-  moved : Change → Event
+  moved : Change → ℕ → Event
   ended : Event
 
 -- ---- calls on a state
@@ -36,7 +38,19 @@ after call s (suc t) = call (after call s t) .state
 abbrev pub answerOf : {S : Type 0} → (S → Handed S Event) → S → ℕ → Answer Event
 answerOf call s j = call (after call s (j - 1)) .answer
 
--- call j names change j: it answers that digit and direction, and hands back the setting of rank j
+-- move j of the list: change j, and the notch of its digit in the setting of rank j
+abbrev pub moveAt : List ℕ → ℕ → Event
+moveAt ms j = moved (change ms j) (notchOf (member ms j) (change ms j .digit))
+
+-- call j names change j: it answers that digit and direction, and the notch, and hands back the setting of rank j
 pub record Names {S : Type 0} (call : S → Handed S Event) (setting : S → List ℕ) (ms : List ℕ) (s : S) (j : ℕ) : Type 0 where
-  pub answers : answerOf call s j ≡ given (moved (change ms j))
+  pub answers : answerOf call s j ≡ given (moveAt ms j)
   pub hands-back : setting (after call s j) ≡ member ms j
+
+-- a move names the notch that it reaches: the digit's entry in the word after it, one more than the entry before on the way up, one
+-- less on the way down; and no other digit moves
+pub record NamesNotch (c : Change) (notch : ℕ) (before after : List ℕ) : Type 0 where
+  pub reached : notchOf after (c .digit) ≡ notch
+  pub up : c .down ≡ false → notch ≡ suc (notchOf before (c .digit))
+  pub down : c .down ≡ true → notchOf before (c .digit) ≡ suc notch
+  pub alone : Moves (c .digit) (c .down) before after

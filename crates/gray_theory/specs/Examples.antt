@@ -109,7 +109,7 @@ surveys-in-range = refl
 -- an engine that moves digit 1 up from 0 to 3 and then ends; its state, the notch, is in range up to 3
 abbrev raised : ℕ → Handed ℕ Event
 raised s =
-    cond (ltb s 3) (record { state = suc s; answer = given (moved (record { digit = 1; down = false })) })
+    cond (ltb s 3) (record { state = suc s; answer = given (moved (record { digit = 1; down = false }) (suc s)) })
     (record { state = s; answer = given ended })
 
 abbrev run : ℕ → ℕ → List ℕ → Running ℕ

@@ -23,7 +23,7 @@ pub record Ran (S : Type 0) : Type 0 where
 
 -- a call that moves, and the calls after it; one that does not move is the last
 abbrev pub runThen : {S : Type 0} → Answer Event → S → Ran S → Ran S
-runThen (given (moved c)) s rest = record {
+runThen (given (moved c notch)) s rest = record {
   state = rest .state;
   bytes = moveByte (c .digit) (c .down) ∷ rest .bytes;
   stop = rest .stop;

@@ -25,13 +25,13 @@ module _ {S : Type 0} (call : S → Handed S Event) (s : S) where
   moved-none = record { count = refl; rest = λ t. let z : 0 + t ≡ t = omega arith in ap (λ (j : ℕ). runFrom call s j) z }
 
   -- one call more that moves, and its byte
-  pub moved-more : (k : ℕ) (done : List ℕ) (c : Change) (b : ℕ)
+  pub moved-more : (k : ℕ) (done : List ℕ) (c : Change) (notch b : ℕ)
       → Moved call s k done
-      → call (after call s k) .answer ≡ given (moved c)
+      → call (after call s k) .answer ≡ given (moved c notch)
       → b ≡ moveByte (c .digit) (c .down)
       → Moved call s (k + 1) (done ++ (b ∷ []))
   unfolding runFrom after
-  moved-more k done c b m says byte = rw (add-one k)
+  moved-more k done c notch b m says byte = rw (add-one k)
       (record {
         count = length-append done (b ∷ []) ∙ (let n = m .count in omega arith);
         rest = λ t.

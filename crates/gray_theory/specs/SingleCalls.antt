@@ -28,7 +28,10 @@ pub data Stops {S : Type 0} (call : S → Handed S Event) (s : S) (t k : ℕ) (l
 pub record SingleCalls {S : Type 0} (call : S → Handed S Event) (s : S) (t : ℕ) (r : Ran S) : Type 0 where
   pub moves : (j : ℕ)
       → j < length (r .bytes)
-      → (c : Change) × (call (after call s j) .answer ≡ given (moved c)) × (getD (r .bytes) j 0 ≡ moveByte (c .digit) (c .down))
+      → (c : Change)
+      × (notch : ℕ)
+      × (call (after call s j) .answer ≡ given (moved c notch))
+      × (getD (r .bytes) j 0 ≡ moveByte (c .digit) (c .down))
   pub stops : Stops call s t (length (r .bytes)) (r .state) (r .stop)
 
 -- the calls after the first
@@ -38,11 +41,11 @@ after-first call s zero = refl
 after-first call s (suc j) = ap (λ x. call x .state) (after-first call s j)
 
 module _ {S : Type 0} (call : S → Handed S Event) (s : S) (t : ℕ) where
-  one-more : (c : Change) → call s .answer ≡ given (moved c) → (r : Ran S)
+  one-more : (c : Change) (notch : ℕ) → call s .answer ≡ given (moved c notch) → (r : Ran S)
       → SingleCalls call (call s .state) t r
       → SingleCalls call s (suc t) (record { state = r .state; bytes = moveByte (c .digit) (c .down) ∷ r .bytes; stop = r .stop })
   unfolding after
-  one-more c says r m = record {
+  one-more c notch says r m = record {
     moves = first;
     stops = later (m .stops);
   }
@@ -50,12 +53,13 @@ module _ {S : Type 0} (call : S → Handed S Event) (s : S) (t : ℕ) where
       first : (j : ℕ)
           → j < suc (length (r .bytes))
           → (d : Change)
-          × (call (after call s j) .answer ≡ given (moved d))
+          × (reached : ℕ)
+          × (call (after call s j) .answer ≡ given (moved d reached))
           × (getD (moveByte (c .digit) (c .down) ∷ r .bytes) j 0 ≡ moveByte (d .digit) (d .down))
-      first zero h = (c, says, refl)
+      first zero h = (c, notch, says, refl)
       first (suc j) h =
-          let (d, says′, byte) = m .moves j (omega arith) in
-          (d, ap (λ x. call x .answer) (sym (after-first call s j)) ∙ says′, byte)
+          let (d, reached, says′, byte) = m .moves j (omega arith) in
+          (d, reached, ap (λ x. call x .answer) (sym (after-first call s j)) ∙ says′, byte)
 
       later : Stops call (call s .state) t (length (r .bytes)) (r .state) (r .stop) → Stops call s (suc t) (suc (length (r .bytes))) (r .state) (r .stop)
       later (all z e is) = all z (ap suc e) (is ∙ after-first call s (length (r .bytes)))
@@ -74,7 +78,7 @@ run-is-single-calls {S} call s (suc t) = by (call s .answer) refl (run-is-single
   where
     by : (a : Answer Event) → call s .answer ≡ a → SingleCalls call (call s .state) t (runFrom call (call s .state) t)
         → SingleCalls call s (suc t) (runThen a (call s .state) (runFrom call (call s .state) t))
-    by (given (moved c)) says m = one-more call s t c says (runFrom call (call s .state) t) m
+    by (given (moved c notch)) says m = one-more call s t c notch says (runFrom call (call s .state) t) m
     by (given ended) says m = record { moves = λ j h. absurd (omega arith); stops = ends refl (omega arith) says refl }
     by (refused x) says m = record { moves = λ j h. absurd (omega arith); stops = refuses x refl (omega arith) says refl }
 
@@ -120,7 +124,7 @@ runs-join {S} call s (suc k) t e =
         → runFrom call s′ (k + t) ≡ onto (runFrom call s′ k .bytes) (runFrom call (runFrom call s′ k .state) t))
         → runThen a s′ (runFrom call s′ (k + t))
         ≡ onto (runThen a s′ (runFrom call s′ k) .bytes) (runFrom call (runThen a s′ (runFrom call s′ k) .state) t)
-    by (given (moved c)) f more =
+    by (given (moved c notch)) f more =
         ap (λ (r : Ran S). record { state = r .state; bytes = moveByte (c .digit) (c .down) ∷ r .bytes; stop = r .stop }) (more f)
     by (given ended) f more = impossible (cc)
     by (refused x) f more = impossible (cc)

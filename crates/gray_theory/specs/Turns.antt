@@ -3,7 +3,7 @@ use Prim.Native.Nat.{ℕ, zero, suc, _-_, _/_, _%_, _≤_, _<_}
 use native.Mathlib.Nat.{zero-div, zero-mod, div-eq-of-lt, mod-lt}
 use native.Mathlib.Numerals.{add-one}
 use native.Mathlib.Omega.{arith}
-use mathlib.Core.Path.{_≡_, refl, sym, ap, ap₂, _∙_}
+use mathlib.Core.Path.{_≡_, refl, sym, ap, ap₂, subst, _∙_}
 use mathlib.Core.Bool.{Bool, true, false, cond, not, _&&_, and-eq-true-iff, Bool·not-not}
 use mathlib.Core.List.{List, [], _∷_}
 use borrow.Author.Tests.{eq-eqb, ne-eqb, leb-true, le-leb}
@@ -92,6 +92,19 @@ moves-set (up {a} {w}) i e = let z : i ≡ 0 = omega arith in rw (z, add-one a)
 moves-set (down {a} {w}) i e = let z : i ≡ 0 = omega arith in let s : suc a - 1 ≡ a = omega arith in rw (z, s)
 moves-set (next p) zero e = absurd (let h = moves-within p in omega arith)
 moves-set (next {a = a} p) (suc i) e = ap (λ (w : List ℕ). a ∷ w) (moves-set p i (omega arith))
+
+-- and a digit that is not at 0 on its way down is moved so
+pub set-moves : (u : List ℕ) (i : ℕ) (d : Bool)
+    → i < length u
+    → (d ≡ true → 0 < getD u i 0)
+    → Moves (suc i) d u (set u i (movedFrom (getD u i 0) d))
+set-moves [] i d h some = absurd (omega arith)
+set-moves (a ∷ u) zero false h some = rw (add-one a) up
+set-moves (a ∷ u) zero true h some =
+    let z = some refl in
+    let s : suc (a - 1) ≡ a = omega arith in
+    subst (λ (x : ℕ). Moves 1 true (x ∷ u) ((a - 1) ∷ u)) s down
+set-moves (a ∷ u) (suc i) d h some = next (set-moves u i d (omega arith) some)
 
 -- digit 1 has come to its notch at rank s: it turns exactly if that is an end
 first-turns : (m s : ℕ)

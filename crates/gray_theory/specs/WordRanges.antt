@@ -1,28 +1,32 @@
 -- What both engines keep: its range part by part, that a move keeps it, and its value at each rank of the walk.
 use Prim.Native.Nat.{ℕ, suc, _-_, _≤_, _<_}
+use native.Mathlib.Decide.{ℕ-discrete}
+use native.Mathlib.Numerals.{add-one}
 use native.Mathlib.Omega.{arith}
-use mathlib.Core.Path.{_≡_, sym, ap, ap₂, _∙_}
-use mathlib.Core.Bool.{true, _&&_, and-eq-true-iff}
+use mathlib.Core.Path.{_≡_, refl, sym, ap, ap₂, subst, _∙_}
+use mathlib.Core.Bool.{Bool, true, false, _&&_, and-eq-true-iff}
 use mathlib.Core.List.{List}
 use borrow.Author.Tests.{le-leb, leb-true}
 use lib.Dec.{leb}
-use lib.ListN.{length, getD, take, length-set, length-reverse}
-use lib.Seq.{length-take-le, getD-take, take-all}
-use Rattle.gray_theory.specs.Answers.{Answer, given, isGiven}
+use lib.ListN.{length, getD, set, take, length-set, length-reverse}
+use lib.Seq.{length-take-le, getD-take, getD-set-same, take-set-lt, take-all}
+use Rattle.gray_theory.specs.Answers.{Answer, given, refused, isGiven}
+use Rattle.gray_theory.specs.Bools.{impossible}
 use Rattle.gray_theory.specs.Arrays.{filled, digitArray}
 use Rattle.gray_theory.specs.Radices.{digits, size, allFrom, Limits}
-use Rattle.gray_theory.specs.Changes.{change}
-use Rattle.gray_theory.specs.Words.{member}
+use Rattle.gray_theory.specs.Changes.{Change, Moves, change}
+use Rattle.gray_theory.specs.Words.{member, notchOf}
 use Rattle.gray_theory.specs.Indexed.{wordAt}
 use Rattle.gray_theory.specs.Locks.{MovingDigits, movingDigits, movingInRange, MovingSays}
-use Rattle.gray_theory.specs.Directions.{digitsInRange}
-use Rattle.gray_theory.specs.DirectedWords.{DirectedWord, Rooms, surveyIn, movingIn, settingIn, freshWith, freshWord, wordInRange, digitMoved, changeBy}
+use Rattle.gray_theory.specs.Directions.{movedFrom, digitInRange, digitsInRange}
+use Rattle.gray_theory.specs.DirectedWords.{DirectedWord, Rooms, surveyIn, movingIn, settingIn, freshWith, freshWord, wordInRange, digitMoved, changeBy, eventBy}
+use Rattle.gray_theory.specs.Engines.{Event, moved, ended, moveAt, NamesNotch}
 use Rattle.gray_theory.specs.Members.{member-is-wordAt}
 use Rattle.gray_theory.specs.Sizes.{radix-two}
 use Rattle.gray_theory.specs.Filled.{take-filled, digit-array}
-use Rattle.gray_theory.specs.DigitRanges.{digits-move-in-range}
+use Rattle.gray_theory.specs.DigitRanges.{DigitRange, allBelow-each, digit-says, digits-move-in-range}
 use Rattle.gray_theory.specs.Unlocked.{moving-says, says-moving, moving-stored, movingDigit, unlocked-two}
-use Rattle.gray_theory.specs.Turns.{Advances}
+use Rattle.gray_theory.specs.Turns.{Advances, set-moves}
 use Rattle.gray_theory.specs.WalkArrays.{wordArray, downArray, take-word-array, word-array-start, down-array-start, arrays-in-range, word-array-moved, down-array-moved, change-named}
 
 -- ---- the range rule, part by part
@@ -116,6 +120,82 @@ unfolding digitMoved
 move-keeps-rooms d k a =
     record { radices = a .radices; moving = a .moving; word = simp length-set (a .word); downs = simp length-set (a .downs) }
 
+-- ---- a move names the notch that it reaches
+-- a notch that is written to a digit is the digit's in the setting
+pub entry-written : (word : List ℕ) (n i a : ℕ) → i < n → i < length word → getD (take n (set word i a)) i 0 ≡ a
+entry-written word n i a there room = getD-take n (set word i a) i 0 there ∙ getD-set-same word i a 0 room
+
+module _ (check : List ℕ → Answer Unit) (d : DirectedWord) (k : ℕ) (rooms : Rooms d) (low : 1 ≤ k) (high : k ≤ d .n) (e : wordInRange check d ≡ true) where
+  abbrev goesDown : Bool
+  goesDown = getD (d .downs) (k - 1) false
+
+  setting-long : length (settingIn d) ≡ d .n
+  setting-long = let most = word-says check d e .most in let long = rooms .word in length-take-le (d .n) (d .word) (omega arith)
+
+  entry : notchOf (settingIn d) k ≡ getD (d .word) (k - 1) 0
+  entry = getD-take (d .n) (d .word) (k - 1) 0 (omega arith)
+
+  setting-moved : settingIn (digitMoved d k) ≡ set (settingIn d) (k - 1) (movedFrom (notchOf (settingIn d) k) goesDown)
+  unfolding digitMoved
+  setting-moved =
+      take-set-lt (d .n) (d .word) (k - 1) (movedFrom (getD (d .word) (k - 1) 0) goesDown) (omega arith)
+      ∙ ap (λ (a : ℕ). set (settingIn d) (k - 1) (movedFrom a goesDown)) (sym entry)
+
+  notch-moved : notchOf (settingIn (digitMoved d k)) k ≡ movedFrom (notchOf (settingIn d) k) goesDown
+  unfolding digitMoved
+  notch-moved =
+      let most = word-says check d e .most in
+      let long = rooms .word in
+      entry-written (d .word) (d .n) (k - 1) (movedFrom (getD (d .word) (k - 1) 0) goesDown) (omega arith) (omega arith)
+      ∙ ap (λ (a : ℕ). movedFrom a goesDown) (sym entry)
+
+  -- on its way down the digit is not at 0
+  not-shut : goesDown ≡ true → 0 < notchOf (settingIn d) k
+  not-shut down =
+      elim (ℕ-discrete (getD (d .word) (k - 1) 0) 0) [
+        | yes shut ↦ let up = in-range .up-at-0 shut in impossible (cc)
+        | no off ↦ let same = entry in omega arith
+      ]
+    where
+      in-range : DigitRange (getD (d .radices) (k - 1) 0) (getD (d .word) (k - 1) 0) goesDown
+      in-range =
+          digit-says (getD (d .radices) (k - 1) 0) (getD (d .word) (k - 1) 0) goesDown
+          (allBelow-each (d .n) (λ i. digitInRange (getD (d .radices) i 0) (getD (d .word) i 0) (getD (d .downs) i false))
+          (word-says check d e .notches)
+          (k - 1)
+          (omega arith))
+
+  names-its-notch : NamesNotch (changeBy d k) (notchOf (settingIn (digitMoved d k)) k) (settingIn d) (settingIn (digitMoved d k))
+  names-its-notch = record {
+    reached = refl;
+    up = λ h. notch-moved ∙ ap (movedFrom (notchOf (settingIn d) k)) h ∙ add-one (notchOf (settingIn d) k);
+    down = λ h. let some = not-shut h in let to = notch-moved ∙ ap (movedFrom (notchOf (settingIn d) k)) h in omega arith;
+    alone =
+        let number : suc (k - 1) ≡ k = omega arith in
+        let long = setting-long in
+        rw (setting-moved) (subst (λ (x : ℕ). Moves x goesDown (settingIn d) (set (settingIn d) (k - 1) (movedFrom (notchOf (settingIn d) k) goesDown))) number
+        (set-moves (settingIn d) (k - 1) goesDown (omega arith) not-shut));
+  }
+
+  -- what the call that makes it says
+  pub move-names-its-notch : (c : Change) (notch : ℕ)
+      → _≡_ {A = Answer Event} (given (eventBy d k)) (given (moved c notch))
+      → NamesNotch c notch (settingIn d) (settingIn (digitMoved d k))
+  move-names-its-notch c notch says =
+      subst (λ (e : Event). NamesNotch (changeOf e) (reachedBy e) (settingIn d) (settingIn (digitMoved d k))) (ap eventOf says) names-its-notch
+    where
+      eventOf : Answer Event → Event
+      eventOf (given e) = e
+      eventOf (refused x) = ended
+
+      changeOf : Event → Change
+      changeOf (moved c notch) = c
+      changeOf ended = record { digit = 0; down = false }
+
+      reachedBy : Event → ℕ
+      reachedBy (moved c notch) = notch
+      reachedBy ended = 0
+
 -- ---- lent radices in an array, and the digits of it that move: what an opening begins with
 module _ (l : List ℕ) (most : length l ≤ 48) (array : List ℕ) (made : array ≡ digitArray l) where
   pub array-whole : array ≡ filled 48 0 (digits l)
@@ -174,7 +254,7 @@ module _ (ms : List ℕ) where
         moving = rw same (says-moving ms (movingDigits ms) (moving-stored ms));
       })
 
-  -- the digit that the list moves from rank r leads to the next, and the change is the list's
+  -- the digit that the list moves from rank r leads to the next, and the change and the notch are the list's
   module _ (r i : ℕ) (a : Advances ms r i) where
     pub directed-moves : digitMoved (directedAt ms r) (suc i) ≡ directedAt ms (suc r)
     unfolding digitMoved
@@ -182,7 +262,12 @@ module _ (ms : List ℕ) where
         let index : suc i - 1 ≡ i = omega arith in
         rw index (cc (word-array-moved ms r i a, down-array-moved ms r i a))
 
-    pub directed-change : suc r < size ms → changeBy (directedAt ms r) (suc i) ≡ change ms (suc r)
+    directed-change : suc r < size ms → changeBy (directedAt ms r) (suc i) ≡ change ms (suc r)
     directed-change below =
         let index : suc i - 1 ≡ i = omega arith in
         rw index (sym (change-named ms r i a below))
+
+    pub directed-event : suc r < size ms → eventBy (directedAt ms r) (suc i) ≡ moveAt ms (suc r)
+    directed-event below =
+        ap₂ moved (directed-change below)
+        (ap₂ notchOf (ap settingIn directed-moves ∙ member-at (suc r) below) (ap (λ (c : Change). c .digit) (directed-change below)))

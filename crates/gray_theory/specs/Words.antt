@@ -36,6 +36,10 @@ list (m ∷ ms) = through m 0 (list ms)
 abbrev pub member : List ℕ → ℕ → List ℕ
 member ms r = getD (list ms) r []
 
+-- the notch of digit k in a setting
+abbrev pub notchOf : List ℕ → ℕ → ℕ
+notchOf w k = getD w (k - 1) 0
+
 -- a setting of these radices: a digit for each radix, below it
 unfoldable pub isWord : List ℕ → List ℕ → Bool
 isWord [] [] = true

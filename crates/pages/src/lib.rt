@@ -69,7 +69,7 @@ fn call_line(answer: Stepping, moves: u64) -> Line
     ensures { λ r. ⌜ r ≡ callLine (steppingAs answer) moves ⌝ }
 {
     match answer {
-        Stepping::Moved(digit, down) => Line::Moved(moves, digit, down),
+        Stepping::Moved(digit, down, _) => Line::Moved(moves, digit, down),
         Stepping::End => Line::End(moves),
         Stepping::Refused(k) => Line::Refused(k),
     }

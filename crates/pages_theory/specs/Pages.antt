@@ -54,7 +54,7 @@ isLast (End last) = true
 
 -- the line of a call that has made j moves then: its move, the end, or the number of a refusal
 abbrev pub callLine : Answer Event → ℕ → Line
-callLine (given (moved c)) j = Moved j (c .digit) (c .down)
+callLine (given (moved c notch)) j = Moved j (c .digit) (c .down)
 callLine (given ended) j = End j
 callLine (refused k) j = Refused k
 

@@ -17,7 +17,7 @@ use Rattle.gray_theory.specs.Changes.{change}
 use Rattle.gray_theory.specs.Radices.{digits, size}
 use Rattle.gray_theory.specs.Sizes.{size-pos}
 use Rattle.gray_theory.specs.Locks.{unlocked}
-use Rattle.gray_theory.specs.Engines.{Event, moved, ended, Handed, after, answerOf}
+use Rattle.gray_theory.specs.Engines.{Event, moveAt, ended, Handed, after, answerOf}
 use Rattle.gray_theory.specs.RunCalls.{Stop, nothing, end, refusal, Ran, runFrom, runMakes, runWith}
 use Rattle.gray_theory.specs.SingleCalls.{run-in-range-is-made}
 use Rattle.gray_theory.specs.RunLaws.{Moved, moved-none, moved-more, all-made, ends-there, refused-there}
@@ -56,7 +56,7 @@ pub data Halts (a : Answer Event) (stop : Stop) : Type 0 where
 -- from rank r, calls 1 to d − 1 name their changes, and call d does not move
 pub record StopsAt {S : Type 0} (call : S → Handed S Event) (ms : List ℕ) (r : ℕ) (s : S) (d : ℕ) (stop : Stop) : Type 0 where
   pub from-one : 1 ≤ d
-  pub moves : (j : ℕ) → 1 ≤ j → j < d → answerOf call s j ≡ given (moved (change ms (r + j)))
+  pub moves : (j : ℕ) → 1 ≤ j → j < d → answerOf call s j ≡ given (moveAt ms (r + j))
   pub halts : Halts (answerOf call s d) stop
 
 -- one move more at the end
@@ -77,13 +77,13 @@ module _ {S : Type 0} (call : S → Handed S Event) (ms : List ℕ) (r : ℕ) (s
   moved-so-far zero h = moved-none call s
   moved-so-far (suc k) h =
       let here : suc k - 1 ≡ k = omega arith in
-      let says : call (after call s k) .answer ≡ given (moved (change ms (r + suc k)))
+      let says : call (after call s k) .answer ≡ given (moveAt ms (r + suc k))
       = ap (λ (i : ℕ). call (after call s i) .answer) (sym here) ∙ run .moves (suc k) (omega arith) h in
       subst (λ (l : List ℕ). Moved call s (suc k) l)
       (sym (more-moves ms r k))
       (subst (λ (i : ℕ). Moved call s i (listMoves ms r k ++ (moveByte (change ms (r + suc k) .digit) (change ms (r + suc k) .down) ∷ [])))
       (add-one k)
-      (moved-more call s k (listMoves ms r k) (change ms (r + suc k)) (moveByte (change ms (r + suc k) .digit) (change ms (r + suc k) .down))
+      (moved-more call s k (listMoves ms r k) (change ms (r + suc k)) _ (moveByte (change ms (r + suc k) .digit) (change ms (r + suc k) .down))
       (moved-so-far k (omega arith))
       says
       refl))
@@ -137,8 +137,8 @@ module _ {S : Type 0} (call : S → Handed S Event) (ms : List ℕ) (r : ℕ) (s
 
 -- ---- the buffered engine
 -- from the start
-from-start : (ms : List ℕ) (j : ℕ) → _≡_ {A = Answer Event} (given (moved (change ms j))) (given (moved (change ms (0 + j))))
-from-start ms j = ap (λ (i : ℕ). given (moved (change ms i))) (sym (zero-add j))
+from-start : (ms : List ℕ) (j : ℕ) → _≡_ {A = Answer Event} (given (moveAt ms j)) (given (moveAt ms (0 + j)))
+from-start ms j = ap (λ (i : ℕ). given (moveAt ms i)) (sym (zero-add j))
 
 module _ (radices : List ℕ) (c : ℕ) (accepted : ahead.openOf ahead.closedWalk radices c .answer ≡ given tt) where
   abbrev ms : List ℕ

@@ -14,7 +14,7 @@ use Rattle.gray_theory.specs.Radices.{digits, bytes, size}
 use Rattle.gray_theory.specs.Words.{member, rank}
 use Rattle.gray_theory.specs.Ranks.{rank-below, rank-of-member}
 use Rattle.gray_theory.specs.Locks.{unlocked}
-use Rattle.gray_theory.specs.Engines.{moved, after}
+use Rattle.gray_theory.specs.Engines.{moveAt, after}
 use Rattle.gray_theory.specs.RunCalls.{Stop, end, refusal}
 use Rattle.ahead_theory.specs.States as walks
 use Rattle.ahead_theory.specs.Calls as ahead
@@ -38,13 +38,13 @@ record FirstStop (ms : List ℕ) (r : ℕ) (w : walks.Walk) : Type 0 where
 -- the first call that does not move, after the first k, which do
 module _ (ms : List ℕ) (c r : ℕ) (w : walks.Walk) (keeps : KeepsToTheList ms c r w) where
   abbrev Moved : ℕ → Type 0
-  Moved k = (j : ℕ) → 1 ≤ j → j < suc k → answer w j ≡ given (moved (change ms (r + j)))
+  Moved k = (j : ℕ) → 1 ≤ j → j < suc k → answer w j ≡ given (moveAt ms (r + j))
 
   moved-on : (k : ℕ) → Moved k → NamesFrom ms r w (suc k) → Moved (suc k)
   moved-on k moves n j low high =
       elim (decLt j (suc k)) [
         | yes before ↦ moves j low before
-        | no here ↦ let same : suc k ≡ j = omega arith in subst (λ (i : ℕ). answer w i ≡ given (moved (change ms (r + i)))) same (n .answers)
+        | no here ↦ let same : suc k ≡ j = omega arith in subst (λ (i : ℕ). answer w i ≡ given (moveAt ms (r + i))) same (n .answers)
       ]
 
   -- it is call k + 1, or a later one

@@ -36,15 +36,17 @@ abbrev pub changes : Test Change
 changes = record { same = sameChange; shows = showsChange }
 
 abbrev sameEvent : Event → Event → Bool
-sameEvent (moved c) (moved d) = sameChange c d
-sameEvent (moved c) ended = false
-sameEvent ended (moved d) = false
+sameEvent (moved c a) (moved d b) = sameChange c d && eqb a b
+sameEvent (moved c a) ended = false
+sameEvent ended (moved d b) = false
 sameEvent ended ended = true
 
 pub showsEvent : (x y : Event) → sameEvent x y ≡ true → x ≡ y
-showsEvent (moved c) (moved d) e = ap moved (showsChange c d e)
-showsEvent (moved c) ended e = impossible (cc)
-showsEvent ended (moved d) e = impossible (cc)
+showsEvent (moved c a) (moved d b) e =
+    let (changed, reached) = and-eq-true-iff (sameChange c d) (eqb a b) .0 e in
+    ap₂ moved (showsChange c d changed) (eqb-true a b reached)
+showsEvent (moved c a) ended e = impossible (cc)
+showsEvent ended (moved d b) e = impossible (cc)
 showsEvent ended ended e = refl
 
 abbrev pub events : Test Event

@@ -58,8 +58,8 @@ up k = record { digit = k; down = false }
 abbrev down : ℕ → Change
 down k = record { digit = k; down = true }
 
-abbrev names : Change → Answer Event
-names c = given (moved c)
+abbrev names : Change → ℕ → Answer Event
+names c notch = given (moved c notch)
 
 abbrev end : Answer Event
 end = given ended
@@ -118,16 +118,16 @@ table =
     ∷ row (lists (lists numbers)) (map (settingAfter (walk (2 ∷ 3 ∷ []) 1)) (0 ∷ 1 ∷ 2 ∷ 3 ∷ 4 ∷ 5 ∷ 6 ∷ []))
     ((0 ∷ 0 ∷ []) ∷ (0 ∷ 1 ∷ []) ∷ (0 ∷ 2 ∷ []) ∷ (1 ∷ 2 ∷ []) ∷ (1 ∷ 1 ∷ []) ∷ (1 ∷ 0 ∷ []) ∷ (1 ∷ 0 ∷ []) ∷ [])
     ∷ row (lists (answers events)) (map (answer (walk (2 ∷ 3 ∷ []) 1)) (1 ∷ 2 ∷ 3 ∷ 4 ∷ 5 ∷ 6 ∷ 7 ∷ []))
-    (names (up 1) ∷ names (up 1) ∷ names (up 2) ∷ names (down 1) ∷ names (down 1) ∷ end ∷ end ∷ [])
+    (names (up 1) 1 ∷ names (up 1) 2 ∷ names (up 2) 1 ∷ names (down 1) 1 ∷ names (down 1) 0 ∷ end ∷ end ∷ [])
     -- three of 2, c = 2: the end at call 8, s = 16, though entry 8 is finished at useful step 15
     ∷ row (lists (answers events)) (map (answer (walk (replicate 3 2) 2)) (1 ∷ 2 ∷ 3 ∷ 4 ∷ 5 ∷ 6 ∷ 7 ∷ 8 ∷ []))
-    (names (up 1) ∷ names (up 2) ∷ names (down 1) ∷ names (up 3) ∷ names (up 1) ∷ names (down 2) ∷ names (down 1) ∷ end ∷ [])
+    (names (up 1) 1 ∷ names (up 2) 1 ∷ names (down 1) 0 ∷ names (up 3) 1 ∷ names (up 1) 1 ∷ names (down 2) 0 ∷ names (down 1) 0 ∷ end ∷ [])
     ∷ row numbers (stepsAfter (walk (replicate 3 2) 2) 8) 16
     ∷ row numbers (finishedAt 7 0 (eventsOf (walk (replicate 3 2) 2) 8)) 15
     ∷ row numbers (cost (digits (replicate 3 2)) 8) 15
     -- with c = 1: seven moves, then refusal 10
     ∷ row (lists (answers events)) (map (answer (walk (replicate 3 2) 1)) (1 ∷ 2 ∷ 3 ∷ 4 ∷ 5 ∷ 6 ∷ 7 ∷ 8 ∷ 9 ∷ []))
-    (names (up 1) ∷ names (up 2) ∷ names (down 1) ∷ names (up 3) ∷ names (up 1) ∷ names (down 2) ∷ names (down 1) ∷ refused 10 ∷ refused 10 ∷ [])
+    (names (up 1) 1 ∷ names (up 2) 1 ∷ names (down 1) 0 ∷ names (up 3) 1 ∷ names (up 1) 1 ∷ names (down 2) 0 ∷ names (down 1) 0 ∷ refused 10 ∷ refused 10 ∷ [])
     -- four sluices of 3
     ∷ row (answers numbers) (rankCall (replicate 4 3) (0 ∷ 1 ∷ 2 ∷ 2 ∷ [])) (given 9)
     -- six of 2
@@ -171,15 +171,19 @@ table =
     ∷ row (lists (lists numbers)) (map (diskSettingAfter (disks (3 ∷ 5 ∷ []))) (upward 15)) (wordsOf (3 ∷ 5 ∷ []))
     -- three of 2: the answers, the end and the call after it
     ∷ row (lists (answers events)) (map (answerOf stepDisks (disks (replicate 3 2))) (1 ∷ 2 ∷ 3 ∷ 4 ∷ 5 ∷ 6 ∷ 7 ∷ 8 ∷ 9 ∷ []))
-    (names (up 1) ∷ names (up 2) ∷ names (down 1) ∷ names (up 3) ∷ names (up 1) ∷ names (down 2) ∷ names (down 1) ∷ end ∷ end ∷ [])
+    (names (up 1) 1 ∷ names (up 2) 1 ∷ names (down 1) 0 ∷ names (up 3) 1 ∷ names (up 1) 1 ∷ names (down 2) 0 ∷ names (down 1) 0 ∷ end ∷ end ∷ [])
     -- a locked sluice between the two of the first case: sluice 3 is named; and among disks on three pegs and on a ring
     ∷ row (lists (answers events)) (map (answer (walk (2 ∷ 1 ∷ 3 ∷ []) 1)) (1 ∷ 2 ∷ 3 ∷ 4 ∷ 5 ∷ 6 ∷ 7 ∷ []))
-    (names (up 1) ∷ names (up 1) ∷ names (up 3) ∷ names (down 1) ∷ names (down 1) ∷ end ∷ end ∷ [])
+    (names (up 1) 1 ∷ names (up 1) 2 ∷ names (up 3) 1 ∷ names (down 1) 1 ∷ names (down 1) 0 ∷ end ∷ end ∷ [])
     ∷ row (lists numbers) (map (removal (walk (2 ∷ 1 ∷ 3 ∷ []) 1)) (1 ∷ 2 ∷ 3 ∷ 4 ∷ 5 ∷ 6 ∷ [])) (1 ∷ 1 ∷ 2 ∷ 1 ∷ 1 ∷ 3 ∷ [])
     ∷ row (lists numbers) (map (stepsAfter (walk (2 ∷ 1 ∷ 3 ∷ []) 1)) (1 ∷ 2 ∷ 3 ∷ 4 ∷ 5 ∷ 6 ∷ [])) (1 ∷ 3 ∷ 4 ∷ 5 ∷ 7 ∷ 9 ∷ [])
     ∷ row (lists (lists numbers)) (map (settingAfter (walk (2 ∷ 1 ∷ 3 ∷ []) 1)) (upward 6)) (wordsOf (2 ∷ 1 ∷ 3 ∷ []))
     ∷ row (lists (lists numbers)) (map (diskSettingAfter (disks (3 ∷ 1 ∷ 5 ∷ []))) (upward 15)) (wordsOf (3 ∷ 1 ∷ 5 ∷ []))
     ∷ row (lists (lists numbers)) (map (diskSettingAfter (disks (1 ∷ 2 ∷ 1 ∷ 2 ∷ 2 ∷ []))) (upward 8)) (wordsOf (1 ∷ 2 ∷ 1 ∷ 2 ∷ 2 ∷ []))
+    ∷ row (lists (answers events)) (map (answerOf stepDisks (disks (3 ∷ 1 ∷ 3 ∷ []))) (1 ∷ 2 ∷ 3 ∷ 4 ∷ 5 ∷ 6 ∷ 7 ∷ 8 ∷ 9 ∷ []))
+    (names (up 1) 1 ∷ names (up 1) 2 ∷ names (up 3) 1 ∷ names (down 1) 1 ∷ names (down 1) 0 ∷ names (up 3) 2 ∷ names (up 1) 1 ∷ names (up 1) 2 ∷ end ∷ [])
+    ∷ row (lists (answers events)) (map (answerOf stepDisks (disks (1 ∷ 2 ∷ 1 ∷ 2 ∷ []))) (1 ∷ 2 ∷ 3 ∷ 4 ∷ []))
+    (names (up 1) 1 ∷ names (up 3) 1 ∷ names (down 1) 0 ∷ end ∷ [])
     -- all locked: the first call is the end, with one useful step
     ∷ row (lists (answers events)) (map (answer (walk (1 ∷ 1 ∷ []) 1)) (1 ∷ 2 ∷ [])) (end ∷ end ∷ [])
     ∷ row (lists numbers) (map (stepsAfter (walk (1 ∷ 1 ∷ []) 32)) (0 ∷ 1 ∷ 2 ∷ [])) (0 ∷ 1 ∷ 1 ∷ [])

@@ -55,7 +55,7 @@ module _ (m : ℕ) (s : Towers) (p : Playing m s) (i : ℕ) (choice : found (s .
         (record {
           hands = sym (ap (λ (c : Handed Towers Event). c .state) goes);
           ends = λ z. absurd (byte-some at (getD (s .directed .downs) at false) few (sym (d .says) ∙ z));
-          moves = λ some. (_, sym (ap (λ (c : Handed Towers Event). c .answer) goes), d .says);
+          moves = λ some. (_, _, sym (ap (λ (c : Handed Towers Event). c .answer) goes), d .says);
         })
 
     -- on three pegs, and on a ring
@@ -147,11 +147,11 @@ module _ (m : ℕ) (s : Towers) (p : Playing m s) (t : ℕ) (before : List ℕ) 
       again some told =
           let n = g .made .count in
           let place : k ≡ 0 + length (g .done) = omega arith in
-          let (change, answers, written) = c .moves some in
+          let (change, notch, answers, written) = c .moves some in
           let says = ap (λ (x : Towers). stepOf x .answer) (g .stands) ∙ answers in
           record {
             done = g .done ++ (byte ∷ []);
-            made = moved-more stepOf s k (g .done) change byte (g .made) says written;
+            made = moved-more stepOf s k (g .done) change notch byte (g .made) says written;
             stands = ap (λ j. after stepOf s j) (add-one k) ∙ ap (λ (x : Towers). stepOf x .state) (g .stands) ∙ c .hands;
             playing =
                 record {

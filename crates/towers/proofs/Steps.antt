@@ -13,7 +13,7 @@ use Rattle.gray_theory.specs.Answers.{given}
 use Rattle.gray_theory.specs.Words.{even}
 use Rattle.gray_theory.specs.Directions.{wordMoved, downsMoved, digitInRange}
 use Rattle.gray_theory.specs.DirectedWords.{digitMoved}
-use Rattle.gray_theory.specs.WordRanges.{DigitThere}
+use Rattle.gray_theory.specs.WordRanges.{DigitThere, entry-written}
 use Rattle.digit.specs.Advances.{advancedFrom, digit-advanced}
 use Rattle.gray_theory.specs.DigitRanges.{allBelow-each}
 use Rattle.gray_theory.specs.Engines.{moved, ended, refusedWith}
@@ -226,6 +226,16 @@ module _ (s : Towers) (long : Arrays s) (ranged : inRange s ≡ true) where
             let downs = long .directed .downs in
             record { few = few; radix = omega arith; notch = omega arith; direction = omega arith; stands = digit-moves }
 
+        -- the notch that is written is the digit's in the setting
+        notch-there : (a : ℕ) (word : List ℕ) → set (s .directed .word) at a ≡ word → a ≡ getD (take (s .directed .n) word) at 0
+        notch-there a word e =
+            let is = at-index in
+            let inside = here .within in
+            let few = digit-fits in
+            let room = long .directed .word in
+            sym (entry-written (s .directed .word) (s .directed .n) at a (omega arith) (omega arith))
+            ∙ ap (λ l. getD (take (s .directed .n) l) at 0) e
+
         pub disk-moved : (to : Directed) (newPegs : List ℕ) (turn : ℕ)
             → to ≡ advancedFrom (getD (s .directed .radices) at 0) (getD (s .directed .word) at 0) (getD (s .directed .downs) at false)
             → newPegs ≡ cond (not (even m)) (s .pegs) (set (s .pegs) i (pegAfter m i (getD (s .pegs) i 0)))
@@ -244,7 +254,7 @@ module _ (s : Towers) (long : Arrays s) (ranged : inRange s ≡ true) where
                     turn = turn;
                     pegs = newPegs;
                   };
-              answer = given (moved (record { digit = at + 1; down = getD (s .directed .downs) at false }));
+              answer = given (moved (record { digit = at + 1; down = getD (s .directed .downs) at false }) (to .digit));
             }
             ≡ moveOf s i
         unfolding moveOf digitMoved
@@ -269,7 +279,8 @@ module _ (s : Towers) (long : Arrays s) (ranged : inRange s ≡ true) where
             ∙ under-cond (allOdd (disks s)) (1 - s .turn) (turnBy false m (s .turn)) (turnBy false (common (disks s)) (s .turn))
             (λ ring. ap (λ n. turnBy false n (s .turn)) (sym (leads .ring ring))) in
             let index : at ≡ digitOf s i - 1 = omega arith in
-            rw (word, downs, pegs, next, named, index)
+            let notch = notch-there (to .digit) (wordMoved (s .directed .word) (s .directed .downs) at) word in
+            rw (word, notch, downs, pegs, next, named, index)
 
 -- ---- step
 module _ (s : Towers) where

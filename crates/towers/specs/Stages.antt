@@ -86,4 +86,4 @@ pub record Called (handed : Handed Towers Event) (byte : ℕ) (left : Towers) : 
   pub hands : handed .state ≡ left
   pub ends : byte ≡ 0 → handed .answer ≡ given ended
   pub moves : (byte ≡ 0 → ⊥)
-      → (c : Change) × (handed .answer ≡ given (moved c)) × (byte ≡ moveByte (c .digit) (c .down))
+      → (c : Change) × (notch : ℕ) × (handed .answer ≡ given (moved c notch)) × (byte ≡ moveByte (c .digit) (c .down))

@@ -477,7 +477,7 @@ impl Towers {
         };
         Stepped {
             towers: towers,
-            answer: Stepping::Moved(k, down),
+            answer: Stepping::Moved(k, down, to.digit),
         }
     }
 

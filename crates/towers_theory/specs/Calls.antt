@@ -8,8 +8,8 @@ use lib.ListN.{getD, set, replicate}
 use Rattle.gray_theory.specs.Answers.{given}
 use Rattle.gray_theory.specs.Radices.{digits}
 use Rattle.gray_theory.specs.Words.{even}
-use Rattle.gray_theory.specs.DirectedWords.{DirectedWord, freshWord, digitMoved, changeBy}
-use Rattle.gray_theory.specs.Engines.{Event, moved, ended, Handed, refusedWith, openWith}
+use Rattle.gray_theory.specs.DirectedWords.{DirectedWord, freshWord, digitMoved, eventBy}
+use Rattle.gray_theory.specs.Engines.{Event, ended, Handed, refusedWith, openWith}
 use Rattle.gray_theory.specs.RunCalls.{Running, runWith}
 use Rattle.towers_theory.specs.States.{Towers, allOdd, common, openCheck, disks, inRange}
 use Rattle.towers_theory.specs.Choices.{digitOf, sweeping, chosen}
@@ -58,7 +58,7 @@ pegsAfter s i =
 unfoldable pub moveOf : Towers → ℕ → Handed Towers Event
 moveOf s i = record {
   state = record { directed = digitMoved (s .directed) (digitOf s i); turn = turnAfter s; pegs = pegsAfter s i };
-  answer = given (moved (changeBy (s .directed) (digitOf s i)));
+  answer = given (eventBy (s .directed) (digitOf s i));
 }
 
 -- where no disk can be chosen the walk has ended, and the state stays as it is, turn included

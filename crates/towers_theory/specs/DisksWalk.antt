@@ -9,13 +9,12 @@ use mathlib.Core.List.{List, []}
 use lib.ListN.{length, getD}
 use Rattle.gray_theory.specs.Answers.{Answer, given, refused}
 use Rattle.gray_theory.specs.Radices.{digits, size}
-use Rattle.gray_theory.specs.Changes.{change}
 use Rattle.gray_theory.specs.Rulers.{change-is-ruler}
 use Rattle.gray_theory.specs.Sizes.{size-pos}
 use Rattle.gray_theory.specs.Locks.{unlocked, moving}
 use Rattle.gray_theory.specs.Unlocked.{size-unlocked, length-moving, moving-pos, moving-once}
 use Rattle.gray_theory.specs.Turns.{Advances}
-use Rattle.gray_theory.specs.Engines.{Event, moved, ended, after, Names}
+use Rattle.gray_theory.specs.Engines.{Event, moveAt, moved, ended, after, Names}
 use Rattle.towers_theory.specs.States.{Towers, Openable, setting, inRange}
 use Rattle.towers_theory.specs.Choices.{pegOf}
 use Rattle.towers_theory.specs.Calls.{fresh, openOf, stepOf}
@@ -27,7 +26,7 @@ use Rattle.towers_theory.specs.Moving.{rests, disk-moves, move-call, end
 
 -- the digit that an answer names, 0 where it names none
 abbrev digitOf : Answer Event → ℕ
-digitOf (given (moved c)) = c .digit
+digitOf (given (moved c notch)) = c .digit
 digitOf (given ended) = 0
 digitOf (refused k) = 0
 
@@ -73,7 +72,7 @@ module _ (ms : List ℕ) (o : Openable ms) where
   answered : (t : ℕ) → answer start (suc t) ≡ stepOf (state start t) .answer
   answered t = let z : suc t - 1 ≡ t = omega arith in ap (λ (k : ℕ). stepOf (state start k) .answer) z
 
-  answers-change : (t : ℕ) → suc t < size ms → answer start (suc t) ≡ given (moved (change ms (suc t)))
+  answers-change : (t : ℕ) → suc t < size ms → answer start (suc t) ≡ given (moveAt ms (suc t))
   answers-change t h =
       answered t
       ∙ ap (λ (s : Towers). stepOf s .answer) (run-to t (omega arith))
@@ -125,13 +124,13 @@ module _ (ms : List ℕ) (o : Openable ms) where
             ∙ s .covered k (omega arith) (omega arith));
       }
 
-  allowed : (j i : ℕ) (down : Bool)
+  allowed : (j i : ℕ) (down : Bool) (notch : ℕ)
       → 1 ≤ j
       → i < length (moving ms)
-      → answer start j ≡ given (moved (record { digit = getD (moving ms) i 0; down = down }))
+      → answer start j ≡ given (moved (record { digit = getD (moving ms) i 0; down = down }) notch)
       → Allowed start j i
-  allowed zero i down h l e = absurd (omega arith)
-  allowed (suc t) i down h l e =
+  allowed zero i down notch h l e = absurd (omega arith)
+  allowed (suc t) i down notch h l e =
       elim (decLt (suc t) (size ms)) [
         | yes p ↦
             let (d, k, a) = disk-moves ms (o .survey .one) t p in

@@ -88,11 +88,11 @@ pub record OnThreePegs : Type 0 where
   pub disk-2-on-three : stepOf (onThree (4 ∷ 0 ∷ 1 ∷ []) (true ∷ []) 0 (7 ∷ 8 ∷ []))
       ≡ record {
         state = onThree (4 ∷ 0 ∷ 2 ∷ []) (true ∷ false ∷ true ∷ []) 1 (7 ∷ 8 ∷ []);
-        answer = given (moved (record { digit = 3; down = false }));
+        answer = given (moved (record { digit = 3; down = false }) 2);
       }
   -- and disk 1 its own, down to 3, with the right pair's turn
   pub disk-1-on-three : stepOf (onThree (4 ∷ 0 ∷ 0 ∷ []) (true ∷ []) 1 [])
-      ≡ record { state = onThree (3 ∷ 0 ∷ 0 ∷ []) (true ∷ []) 0 []; answer = given (moved (record { digit = 1; down = true })) }
+      ≡ record { state = onThree (3 ∷ 0 ∷ 0 ∷ []) (true ∷ []) 0 []; answer = given (moved (record { digit = 1; down = true }) 3) }
   -- no disk on the pair: the end, and the state stays, turn included
   pub ends-on-three : map stepOf (asideLeft ∷ asideRight ∷ [])
       ≡ record { state = asideLeft; answer = given ended } ∷ record { state = asideRight; answer = given ended } ∷ []
@@ -116,13 +116,13 @@ stacked = onRing [] [] 3 (2 ∷ 2 ∷ [])
 pub record OnTheRing : Type 0 where
   -- in its sweep disk 1 goes clockwise, from peg 4 on to peg 0, and the turn grows by 1, up to m − 1
   pub sweeps-on-the-ring : map stepOf (onRing (1 ∷ []) [] 1 (4 ∷ 4 ∷ []) ∷ onRing (3 ∷ []) (true ∷ []) 2 (1 ∷ 3 ∷ []) ∷ [])
-      ≡ record { state = onRing (2 ∷ []) [] 2 (0 ∷ 4 ∷ []); answer = given (moved (record { digit = 1; down = false })) }
-      ∷ record { state = onRing (2 ∷ []) (true ∷ []) 3 (2 ∷ 3 ∷ []); answer = given (moved (record { digit = 1; down = true })) }
+      ≡ record { state = onRing (2 ∷ []) [] 2 (0 ∷ 4 ∷ []); answer = given (moved (record { digit = 1; down = false }) 2) }
+      ∷ record { state = onRing (2 ∷ []) (true ∷ []) 3 (2 ∷ 3 ∷ []); answer = given (moved (record { digit = 1; down = true }) 2) }
       ∷ []
   -- after it disk 2 goes the other way, from peg 0 on to peg 4, and the turn is 0 again; it moves digit 3
   pub disk-2-on-the-ring : map stepOf (onRing [] [] 3 (2 ∷ 0 ∷ []) ∷ onRing [] [] 3 (2 ∷ 4 ∷ []) ∷ [])
-      ≡ record { state = onRing (0 ∷ 0 ∷ 1 ∷ []) [] 0 (2 ∷ 4 ∷ []); answer = given (moved (record { digit = 3; down = false })) }
-      ∷ record { state = onRing (0 ∷ 0 ∷ 1 ∷ []) [] 0 (2 ∷ 3 ∷ []); answer = given (moved (record { digit = 3; down = false })) }
+      ≡ record { state = onRing (0 ∷ 0 ∷ 1 ∷ []) [] 0 (2 ∷ 4 ∷ []); answer = given (moved (record { digit = 3; down = false }) 1) }
+      ∷ record { state = onRing (0 ∷ 0 ∷ 1 ∷ []) [] 0 (2 ∷ 3 ∷ []); answer = given (moved (record { digit = 3; down = false }) 1) }
       ∷ []
   -- with all disks on one peg there is none on another: the end, and the state stays, turn included
   pub ends-on-the-ring : stepOf stacked ≡ record { state = stacked; answer = given ended }

@@ -40,10 +40,10 @@ pub record PlaysTheList (ms : List ℕ) (s : Towers) : Type 0 where
   pub moves : (j : ℕ) → 1 ≤ j → j < size ms → Names stepOf setting ms s j
   pub end : (j : ℕ) → size ms ≤ j → Ends s j
   pub in-range : (t : ℕ) → inRange (state s t) ≡ true
-  pub rules : (j i : ℕ) (down : Bool)
+  pub rules : (j i : ℕ) (down : Bool) (notch : ℕ)
       → 1 ≤ j
       → i < length (moving ms)
-      → answer s j ≡ given (moved (record { digit = getD (moving ms) i 0; down = down }))
+      → answer s j ≡ given (moved (record { digit = getD (moving ms) i 0; down = down }) notch)
       → Allowed s j i
 
 -- ---- a state with other pegs

@@ -10,13 +10,16 @@ use mathlib.Core.Option.{Option, none, some, Option·some-injective}
 use borrow.Author.Tests.{eq-eqb, ne-eqb, lt-ltb, le-ltb}
 use lib.ListN.{length, getD, set, length-set}
 use lib.Seq.{getD-set-same, getD-set-other}
+use Rattle.gray_theory.specs.Answers.{given}
+use Rattle.gray_theory.specs.Bools.{impossible}
 use Rattle.gray_theory.specs.Words.{even}
+use Rattle.gray_theory.specs.Changes.{Change}
 use Rattle.gray_theory.specs.Sizes.{radix-two}
 use Rattle.gray_theory.specs.Unlocked.{unlocked-two, unlocked-most}
 use Rattle.gray_theory.specs.DirectedWords.{wordInRange, digitMoved}
-use Rattle.gray_theory.specs.WordRanges.{says-word, word-says, ranged-moving, survey-long, move-keeps-range, move-keeps-rooms}
-use Rattle.gray_theory.specs.Engines.{Event, Handed, refusedWith}
-use Rattle.towers_theory.specs.States.{Towers, allOdd, common, openCheck, survey, disks, inRange, Arrays}
+use Rattle.gray_theory.specs.WordRanges.{says-word, word-says, ranged-moving, survey-long, move-keeps-range, move-keeps-rooms, move-names-its-notch}
+use Rattle.gray_theory.specs.Engines.{Event, moved, NamesNotch, Handed, refusedWith}
+use Rattle.towers_theory.specs.States.{Towers, allOdd, common, openCheck, setting, survey, disks, inRange, Arrays}
 use Rattle.towers_theory.specs.Choices.{digitOf, pegOf, smallest, onPair, sweeping, isTop, elsewhere, chosenOnPair, chosenOnRing, chosen}
 use Rattle.towers_theory.specs.Calls.{fresh, closedTowers, turnBy, clockwise, anticlockwise, pegAfter, pegsAfter, moveOf, moveBy, stepOf}
 use Rattle.towers_theory.specs.Game.{withPegs}
@@ -145,6 +148,38 @@ module _ (s : Towers) (a : Arrays s) (ranged : inRange s ≡ true) where
       go : (c : Option ℕ) → Arrays (moveBy s c .state)
       go none = a
       go (some i) = record { directed = move-keeps-rooms (s .directed) (digitOf s i) (a .directed); pegs = length-pegs i }
+
+-- A move names the notch it reaches, from every state there is, made-up ones too: the notch answered is the digit's in the setting
+-- handed back, one on from its notch before in the direction answered; and no other digit has moved.
+pub moves-name-their-notch : (s : Towers)
+    → Arrays s
+    → (c : Change) (notch : ℕ)
+    → stepOf s .answer ≡ given (moved c notch)
+    → NamesNotch c notch (setting s) (setting (stepOf s .state))
+unfolding stepOf moveOf
+moves-name-their-notch s a c notch = go (inRange s) refl
+  where
+    by : (ranged : inRange s ≡ true) (o : Option ℕ)
+        → chosen s ≡ o
+        → moveBy s o .answer ≡ given (moved c notch)
+        → NamesNotch c notch (setting s) (setting (moveBy s o .state))
+    by ranged none e says = impossible (cc)
+    by ranged (some i) e says =
+        let d = disk-digit s (range-says s ranged) (a .directed .radices) i (chosen-within s a ranged i e) in
+        let number = d .number in
+        let inside = d .within in
+        move-names-its-notch openCheck (s .directed) (digitOf s i) (a .directed) (omega arith) (omega arith)
+        (says-word openCheck (s .directed) (range-says s ranged .word))
+        c
+        notch
+        says
+
+    go : (b : Bool)
+        → inRange s ≡ b
+        → cond (not b) (refusedWith 7 s) (moveBy s (chosen s)) .answer ≡ given (moved c notch)
+        → NamesNotch c notch (setting s) (setting (cond (not b) (refusedWith 7 s) (moveBy s (chosen s)) .state))
+    go true ranged says = by ranged (chosen s) refl says
+    go false out says = impossible (cc)
 
 -- for odd radices a call on other pegs does the same, and hands them back as they came
 module _ (s : Towers) (pegs : List ℕ) (e : allOdd (disks s) ≡ true) where

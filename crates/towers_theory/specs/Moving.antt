@@ -14,7 +14,7 @@ use Rattle.gray_theory.specs.Answers.{given}
 use Rattle.gray_theory.specs.Radices.{size, allFrom}
 use Rattle.gray_theory.specs.Locks.{unlocked, moving, movingDigits}
 use Rattle.gray_theory.specs.Unlocked.{unlocked-two, size-unlocked, entry-number, moving-stored}
-use Rattle.gray_theory.specs.Changes.{Change, ruler, change}
+use Rattle.gray_theory.specs.Changes.{ruler}
 use Rattle.gray_theory.specs.Increments.{Increment.no-carry, Increment.carry, increment}
 use Rattle.gray_theory.specs.Rulers.{ruler-at-end}
 use Rattle.gray_theory.specs.Sizes.{allFrom-weaker}
@@ -23,8 +23,8 @@ use Rattle.gray_theory.specs.Indexed.{wordAt, downsAt}
 use Rattle.gray_theory.specs.Filled.{getD-filled, set-filled}
 use Rattle.gray_theory.specs.Directions.{movedFrom}
 use Rattle.gray_theory.specs.Turns.{Advances, walk-advances}
-use Rattle.gray_theory.specs.WordRanges.{survey-at, directed-moves, directed-change}
-use Rattle.gray_theory.specs.Engines.{moved, ended}
+use Rattle.gray_theory.specs.WordRanges.{survey-at, directed-moves, directed-event}
+use Rattle.gray_theory.specs.Engines.{Event, moveAt, ended}
 use Rattle.towers_theory.specs.States.{Towers, allOdd, common, Openable}
 use Rattle.towers_theory.specs.Choices.{digitOf, sidePeg, chosen}
 use Rattle.towers_theory.specs.Calls.{turnAfter, pegAfter, pegsAfter, moveOf, moveBy, stepOf}
@@ -130,24 +130,24 @@ module _ (ms : List ℕ) (o : Openable ms) (r : ℕ) where
   move-is : (i k : ℕ)
       → DiskMoves ms r i k
       → suc r < size ms
-      → moveOf here i ≡ record { state = towersAt ms (suc r); answer = given (moved (change ms (suc r))) }
+      → moveOf here i ≡ record { state = towersAt ms (suc r); answer = given (moveAt ms (suc r)) }
   unfolding towersAt moveOf
   move-is i k d below =
       let number : getD (movingDigits ms .digits) i 0 ≡ suc k = moving-stored ms .digits i (d .disk .within) ∙ d .number in
       rw number
-      (ap₂ (λ (s : Towers) (c : Change). record { state = s; answer = given (moved c) })
+      (ap₂ (λ (s : Towers) (e : Event). record { state = s; answer = given e })
       (same-towers
       (directed-moves ms r k (d .digit))
       (turn-moves (form ws (playable o)))
       (stored-moves i (d .disk) (form ws (playable o))))
-      (directed-change ms r k (d .digit) below))
+      (directed-event ms r k (d .digit) below))
 
   -- a call goes by the disk chosen
   step-by : (choice : Option ℕ) → chosen here ≡ choice → stepOf here ≡ moveBy here choice
   unfolding stepOf
   step-by choice e = rw (towers-in-range ms o r, e)
 
-  pub move-call : suc r < size ms → stepOf here ≡ record { state = towersAt ms (suc r); answer = given (moved (change ms (suc r))) }
+  pub move-call : suc r < size ms → stepOf here ≡ record { state = towersAt ms (suc r); answer = given (moveAt ms (suc r)) }
   move-call below =
       let (i, k, d) = disk-moves ms (o .survey .one) r below in
       step-by (some i) (chooses ms o r i (d .disk .digit) (d .disk .within)) ∙ move-is i k d below

@@ -210,7 +210,10 @@ fn joined(bytes: &[u8]) -> String {
 
 fn answer_text(answer: Answer) -> String {
     match answer {
-        Answer::Moved(change) => format!("moved {} {}", change.sluice, if change.down { "down" } else { "up" }),
+        Answer::Moved(change, notch) => {
+            let direction = if change.down { "down" } else { "up" };
+            format!("moved {} {direction} to {notch}", change.sluice)
+        }
         Answer::End => "end".into(),
         Answer::Refused(number) => format!("refused {number}"),
     }

@@ -73,7 +73,7 @@ impl Disks {
             self.move_on_ring(m)
         };
         match i {
-            Some(i) => Step::Moved(self.digits.advance(i)),
+            Some(i) => self.digits.advance(i),
             None => Step::End,
         }
     }
@@ -122,6 +122,15 @@ impl Disks {
     #[cfg(test)]
     pub fn digits(&mut self) -> &mut Digits {
         &mut self.digits
+    }
+
+    /// One call: refusal 7.
+    #[inline(never)]
+    pub fn step(&mut self) -> Step {
+        match self.radix_in_range() {
+            Some(m) => self.call(m),
+            None => Step::Refused(7),
+        }
     }
 
     /// A run of at most t moves at the start of `out`: refusals 7 and 9.

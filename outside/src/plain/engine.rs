@@ -2,9 +2,10 @@
 use super::words::{counted, MOST_DIGITS, MOST_WORDS};
 use crate::run::Run;
 
-/// What a call of an engine answers.
+/// What a call of an engine answers: a move as a byte and the notch that its digit has come to, the end, or a refusal.
+#[derive(Clone, Copy, Debug, PartialEq, Eq)]
 pub enum Step {
-    Moved(u8),
+    Moved(u8, u8),
     End,
     Refused(u8),
 }
@@ -127,12 +128,12 @@ impl Digits {
     /// A digit moves one notch in its direction, which turns at either end. The move as a byte: the digit, the top bit set for
     /// down.
     #[inline]
-    pub fn advance(&mut self, i: usize) -> u8 {
+    pub fn advance(&mut self, i: usize) -> Step {
         let (m, digit, down) = (self.radices[i], &mut self.word[i], &mut self.downs[i]);
         let byte = (i as u8 + 1) | (u8::from(*down) << 7);
         *digit = if *down { *digit - 1 } else { *digit + 1 };
         *down ^= (*digit == 0) | (*digit == m - 1);
-        byte
+        Step::Moved(byte, *digit)
     }
 }
 
@@ -163,7 +164,7 @@ pub fn put_moves(out: &mut [u8], mut step: impl FnMut() -> Step) -> Run {
     let mut moves = 0;
     for byte in out {
         match step() {
-            Step::Moved(next) => *byte = next,
+            Step::Moved(next, _) => *byte = next,
             Step::End => return Run::Ended(moves),
             Step::Refused(number) => return Run::Stopped(moves, number),
         }

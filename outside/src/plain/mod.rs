@@ -13,5 +13,7 @@ pub mod log;
 pub mod walk;
 pub mod words;
 
+pub use engine::Step;
+
 #[cfg(test)]
 mod tests;

@@ -1,10 +1,11 @@
-//! The plain calls answer what the library answers, refusals too; Algorithm H lists what the second program does.
+//! The plain calls answer what the library answers, refusals too; single calls, which it does not offer, and Algorithm H answer
+//! what the second program does.
 use super::engine::Digits;
-use super::{algorithm_h, disks, list, log, walk, words};
+use super::{algorithm_h, disks, list, log, walk, words, Step};
 use crate::capi::{self, Answer};
 use crate::chance::Chance;
 use crate::run::Run;
-use crate::second::{buffered, survey};
+use crate::second::{self, buffered, survey};
 use std::fmt::Debug;
 
 /// Surveys short enough to be walked, some of them faulty, half of them with locked digits, some with no others.
@@ -91,6 +92,31 @@ fn engines_are_alike() {
         let room = (t + chance.pick(&[0, 0, 1, 2, 9])).saturating_sub(chance.between(0, 1));
         let capacity = enough(&radices) + chance.between(0, 2) - 1 + 40 * usize::from(chance.once_in(20));
         engines_alike(&radices, capacity, t as u64, room);
+    }
+}
+
+/// The second program's answer to a single call, as the plain ones give it.
+fn step(answer: second::Answer) -> Step {
+    match answer {
+        second::Answer::Moved(change, notch) => Step::Moved(change.byte(), notch),
+        second::Answer::End => Step::End,
+        second::Answer::Refused(number) => Step::Refused(number),
+    }
+}
+
+/// Single calls name the sluice, the direction and the notch; some walks run dry, some come to their end.
+#[test]
+fn single_calls_are_alike() {
+    let mut chance = Chance::new(10);
+    for _ in 0..1_000 {
+        let radices = survey(&mut chance);
+        let capacity = (enough(&radices) + chance.between(0, 1) - 1).clamp(1, 32);
+        if let (Ok(mut plain), Ok(mut other)) = (walk::Walk::open(&radices, capacity), buffered::Walk::open(&radices, capacity)) {
+            assert!((0..300).all(|_| plain.step() == step(other.step())), "{radices:?}");
+        }
+        if let (Ok(mut plain), Ok(mut other)) = (disks::Disks::open(&radices), second::disks::Disks::open(&radices)) {
+            assert!((0..300).all(|_| plain.step() == step(other.step())), "{radices:?}");
+        }
     }
 }
 

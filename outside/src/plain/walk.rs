@@ -166,7 +166,7 @@ impl Core {
             return Step::End;
         }
         self.moves += 1;
-        Step::Moved(self.digits.advance(self.digits.at_place(removed)))
+        self.digits.advance(self.digits.at_place(removed))
     }
 
     /// The counter, the place that it has come to and the numbers of moves and steps.
@@ -247,6 +247,21 @@ impl Walk {
     #[cfg(test)]
     pub fn set_moves(&mut self, moves: u64) {
         self.core.moves = moves;
+    }
+
+    /// One call: refusals 7 and 10.
+    #[inline(never)]
+    pub fn step(&mut self) -> Step {
+        if self.size_in_range().is_none() {
+            return Step::Refused(7);
+        }
+        if self.core.ended {
+            return Step::End;
+        }
+        let mut ring = Ring::of(&self.queue);
+        let step = self.core.call(&mut ring);
+        self.queue = ring.shifted();
+        step
     }
 
     /// A run of at most t moves at the start of `out`: refusals 7 and 9, and 10 after the moves before a dry call.

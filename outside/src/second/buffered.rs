@@ -1,4 +1,4 @@
-//! The buffered engine: document 01, "The buffered engine", document 02, requests 3, 4 and 6, and document 004, section 10.
+//! The buffered engine: document 01, "The buffered engine", document 02, requests 3, 4, 6 and 8, and document 004, section 10.
 //!
 //! Work steps, counter and queue run over the moving sluices alone: place i is the i-th of them, which is sluice i only if none
 //! before it is locked.
@@ -171,7 +171,7 @@ impl Walk {
         } else {
             let sluice = next.sluices.sluice(k);
             next.moves += 1;
-            Answer::Moved(next.sluices.move_sluice(sluice))
+            next.sluices.move_sluice(sluice)
         };
         *self = next;
         answer

@@ -116,7 +116,7 @@ impl Disks {
             }
         }
         let sluice = self.sluices.sluice(disk);
-        Answer::Moved(self.sluices.move_sluice(sluice))
+        self.sluices.move_sluice(sluice)
     }
 
     /// A run of at most t moves, their bytes put into `room`.

@@ -16,10 +16,10 @@ mod tests;
 /// A refusal is its number in document 01, "Turned down, in checking order".
 pub type Refusal = u8;
 
-/// What a call of an engine answers.
+/// What a call of an engine answers. A move names the notch that its sluice has come to: document 02, request 8.
 #[derive(Clone, Copy, Debug, PartialEq, Eq)]
 pub enum Answer {
-    Moved(survey::Change),
+    Moved(survey::Change, u8),
     End,
     Refused(Refusal),
 }

@@ -21,7 +21,7 @@ pub fn single_calls(in_range: bool, mut step: impl FnMut() -> Answer, t: u64, ro
     let mut bytes = vec![];
     for made in 0..t {
         match step() {
-            Answer::Moved(change) => bytes.push(change.byte()),
+            Answer::Moved(change, _) => bytes.push(change.byte()),
             Answer::End => return (Run::Ended(made), bytes),
             Answer::Refused(number) => return (Run::Stopped(made, number), bytes),
         }

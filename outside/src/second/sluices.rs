@@ -1,5 +1,6 @@
 //! What both engines keep: the survey, its moving sluices, the setting and the directions, sluice 1 first.
 use super::survey::{self, Change, MOST_SLUICES};
+use super::Answer;
 
 /// n and `moving` may be anything in a made-up state, so they are not the arrays' lengths. `number` holds the moving sluices in
 /// rising order, and `moving` says how many they are.
@@ -97,15 +98,15 @@ impl Sluices {
         (1..=self.moving).map(|i| self.radix[self.sluice(i) - 1]).collect()
     }
 
-    /// Sluice k moves one notch in its direction, which turns at either end.
-    pub fn move_sluice(&mut self, k: usize) -> Change {
+    /// Sluice k moves one notch in its direction, which turns at either end. The answer has its entry in the new setting.
+    pub fn move_sluice(&mut self, k: usize) -> Answer {
         let x = k - 1;
         let down = self.down[x];
         self.digit[x] = if down { self.digit[x] - 1 } else { self.digit[x] + 1 };
         if self.digit[x] == 0 || self.digit[x] == self.radix[x] - 1 {
             self.down[x] = !down;
         }
-        Change { sluice: k as u8, down }
+        Answer::Moved(Change { sluice: k as u8, down }, self.digit[x])
     }
 }
 

@@ -1,4 +1,4 @@
-//! Document 01's cases, and those of document 02, requests 3, 4 and 6.
+//! Document 01's cases, and those of document 02, requests 3, 4, 6 and 8.
 use super::buffered::{self, Walk};
 use super::disks::Disks;
 use super::sluices::Sluices;
@@ -17,7 +17,7 @@ fn removals(counts: &[u8], capacity: usize) -> Vec<(usize, u64)> {
     let mut all = vec![];
     loop {
         match walk.step() {
-            Answer::Moved(change) => all.push((change.sluice.into(), walk.steps)),
+            Answer::Moved(change, _) => all.push((change.sluice.into(), walk.steps)),
             Answer::End => return [all, vec![(counts.len() + 1, walk.steps)]].concat(),
             Answer::Refused(number) => {
                 assert_eq!(number, 10);
@@ -84,9 +84,9 @@ fn openings_with_locked_sluices() {
     assert_eq!((fresh.n, fresh.moving, &fresh.number[..3]), (3, 2, &[1, 3, 0][..]));
 }
 
-/// A sluice that moves up.
+/// A sluice that moves up to notch 1.
 fn up(sluice: u8) -> Answer {
-    Answer::Moved(Change { sluice, down: false })
+    Answer::Moved(Change { sluice, down: false }, 1)
 }
 
 #[test]
@@ -194,6 +194,23 @@ fn disks_follow_the_list() {
         let whole = (Run::Ended(size - 1), super::survey::move_bytes(counts, size - 1));
         assert_eq!(disks::moves(counts, size, size as usize), whole);
         assert_eq!(buffered::moves(counts, 32, size, size as usize), whole);
+    }
+}
+
+/// Along the whole list each move of either engine names its sluice's entry in the setting that it reaches; an end names none.
+#[test]
+fn moves_name_their_notch() {
+    for counts in [&[2, 1, 3][..], &[4, 1, 4, 4], &[3, 5, 1, 3], &[255, 2], &[1, 2, 2, 2], &[1, 1]] {
+        let (mut walk, mut disks) = (Walk::open(counts, 32).unwrap(), Disks::open(counts));
+        for setting in &list(counts)[1..] {
+            let answer = walk.step();
+            let Answer::Moved(change, notch) = answer else {
+                panic!("{counts:?}: {answer:?}")
+            };
+            assert_eq!(notch, setting[counts.len() - usize::from(change.sluice)]);
+            assert!(disks.iter_mut().all(|disks| disks.step() == answer));
+        }
+        assert_eq!(walk.step(), Answer::End);
     }
 }
 

@@ -46,7 +46,7 @@ fn walk_text(counts: &[u8], size: u64) -> String {
     let mut text = format!("sluices {} settings {size}\n0 {} start\n", counts.len(), setting_text(&walk));
     loop {
         match walk.step() {
-            Answer::Moved(change) => text += &move_text(&walk, change),
+            Answer::Moved(change, _) => text += &move_text(&walk, change),
             Answer::End => return text + &format!("end {}\n", size - 1),
             Answer::Refused(number) => panic!("refusal {number} in the walk of {counts:?}, though the capacity is enough"),
         }
