@@ -273,12 +273,27 @@ unfolding diskMovesCall
 refused-disks-write-nothing radices k e t out =
     ap (λ (a : Answer Unit). openedRun a (towers.runOf (towers.openOf towers.closedTowers radices .state) t out) out) e
 
--- Two controllers, one on each engine, agree on every move, on every end and on every refusal.
-pub engines-agree : (radices : List ℕ) (c : ℕ)
-    → ahead.openOf ahead.closedWalk radices c .answer ≡ given tt
-    → length (unlocked (digits radices)) ≤ 2 * c
-    → towers.openOf towers.closedTowers radices .answer ≡ given tt
-    → (t : ℕ) (out : List ℕ)
-    → walkMovesCall radices c t out ≡ diskMovesCall radices t out
-engines-agree radices c walk places disks t out =
-    walk-moves-are-the-lists radices c walk places t out ∙ sym (disk-moves-are-the-lists radices disks t out)
+-- ---- two controllers, one on each engine, with places enough
+module _ (radices : List ℕ) (c : ℕ) (places : length (unlocked (digits radices)) ≤ 2 * c) where
+  -- They agree on every move of a run, on every end and on every refusal.
+  pub engines-agree : ahead.openOf ahead.closedWalk radices c .answer ≡ given tt
+      → towers.openOf towers.closedTowers radices .answer ≡ given tt
+      → (t : ℕ) (out : List ℕ)
+      → walkMovesCall radices c t out ≡ diskMovesCall radices t out
+  engines-agree walk disks t out =
+      walk-moves-are-the-lists radices c walk places t out ∙ sym (disk-moves-are-the-lists radices disks t out)
+
+  -- And call by call, on whatever states they were opened: they answer the same digit, direction and notch, or both the end.
+  pub single-calls-agree : (w : walks.Walk) (s : games.Towers)
+      → ahead.openOf w radices c .answer ≡ given tt
+      → towers.openOf s radices .answer ≡ given tt
+      → (j : ℕ)
+      → 1 ≤ j
+      → answerOf ahead.stepOf (ahead.openOf w radices c .state) j ≡ answerOf towers.stepOf (towers.openOf s radices .state) j
+  single-calls-agree w s walk disks j low =
+      let here = fresh-walks-work-ahead w radices c walk .never-dry places in
+      let there = disks-walk-the-list s radices disks in
+      elim (decLt j (size (digits radices))) [
+        | yes more ↦ here .moves j low more .answers ∙ sym (there .moves j low more .answers)
+        | no past ↦ here .end j (omega arith) ∙ sym (there .end j (omega arith) .answers)
+      ]
