@@ -12,11 +12,10 @@ use Rattle.gray_theory.specs.MoveBytes.{moveByte, moveDown}
 use Rattle.gray_theory.specs.Packing.{unpacked}
 use Rattle.gray_theory.specs.Arrays.{filled}
 use Rattle.gray_theory.specs.Filled.{getD-filled}
-use Rattle.gray_theory.specs.Directions.{digitInRange}
-use Rattle.gray_theory.specs.DigitRanges.{allBelow-each, digit-says}
+use Rattle.gray_theory.specs.WordRanges.{digit-ranged}
 use Rattle.gray_theory.specs.Sizes.{radix-two}
 use Rattle.gray_theory.specs.Unlocked.{unlocked-two}
-use Rattle.ahead_theory.specs.States.{Walk, survey, movingRadices, inRange, Arrays}
+use Rattle.ahead_theory.specs.States.{Walk, survey, movingRadices, openCheck, inRange, Arrays}
 use Rattle.ahead_theory.specs.InRange.{Ranged, range-says, moving-known, producer-says, last-is-two}
 use Rattle.ahead_theory.specs.Locals.{ToGo, Notch, Numbered}
 use Rattle.ahead_theory.specs.LocalCalls.{numbered}
@@ -208,9 +207,7 @@ module _ (w : Walk) (ranged : inRange w ≡ true) (a : Arrays w) where
         let (low, high) = number-fits in
         let hn = numbers .within i (omega arith) in
         let r = numbers .radix i (omega arith) in
-        let notch = digit-says (getD (w .directed .radices) (d - 1) 0) (getD (w .directed .word) (d - 1) 0) (getD (w .directed .downs) (d - 1) false)
-        (allBelow-each (w .directed .n) (λ j. digitInRange (getD (w .directed .radices) j 0) (getD (w .directed .word) j 0) (getD (w .directed .downs) j false)) (s .word .notches) (d - 1) (omega arith)) in
-        let below = notch .below in
+        let below = digit-ranged (openCheck (w .capacity)) (w .directed) (s .word) (d - 1) (omega arith) .below in
         let same : getD (w .directed .word) (e - 1) 0 ≡ getD (w .directed .word) (d - 1) 0 = ap (λ x. getD (w .directed .word) (x - 1) 0) is in
         let m : getD (w .directed .radices) (e - 1) 0 ≡ getD (w .directed .radices) (d - 1) 0 = ap (λ x. getD (w .directed .radices) (x - 1) 0) is in
         record { inside = omega arith; some = omega arith; count = omega arith; notch = omega arith }

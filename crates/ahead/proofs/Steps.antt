@@ -11,13 +11,12 @@ use lib.Seq.{length-take-le, getD-take, getD-at}
 use Rattle.gray_theory.specs.Answers.{given}
 use Rattle.gray_theory.specs.Unlocked.{looked-up-at}
 use Rattle.gray_theory.specs.Directions.{movedFrom, digitInRange}
-use Rattle.gray_theory.specs.WordRanges.{entry-written}
+use Rattle.gray_theory.specs.WordRanges.{digit-tested, entry-written}
 use Rattle.gray_theory.specs.DirectedWords.{DirectedWord, digitMoved}
 use Rattle.digit.specs.Advances.{advancedFrom, digit-advanced}
 use Rattle.gray_theory.specs.Engines.{moved, ended, refusedWith}
-use Rattle.gray_theory.specs.DigitRanges.{allBelow-each}
 use Rattle.digit.specs.declared.Directed.{Directed}
-use Rattle.ahead_theory.specs.States.{Producer, Walk, movingRadices, places, inRange, Arrays}
+use Rattle.ahead_theory.specs.States.{Producer, Walk, movingRadices, places, openCheck, inRange, Arrays}
 use Rattle.ahead_theory.specs.Work.{countAt, radixAt, runOut, done, work}
 use Rattle.ahead_theory.specs.Calls.{twice, course, removing, dequeued, endOf, moveOf, stepBy, stepOf}
 use Rattle.ahead_theory.specs.InRange.{place-two, producer-says, runs-out, carries-on, appends-one, stays-full, count-grows, Ranged, survey-openable, moving-known, Reached, reached-more}
@@ -144,10 +143,7 @@ module _ (w : Walk) (k : ℕ) (ok : DigitToMove w k) (place : ℕ) (wide : place
   d = w .directed
 
   digit-ranged : digitInRange (getD (d .radices) (place - 1) 0) (getD (d .word) (place - 1) 0) (getD (d .downs) (place - 1) false) ≡ true
-  digit-ranged =
-      allBelow-each (d .n) (λ i. digitInRange (getD (d .radices) i 0) (getD (d .word) i 0) (getD (d .downs) i false)) (ok .word .notches)
-      (place - 1)
-      (omega arith)
+  digit-ranged = digit-tested (openCheck (w .capacity)) d (ok .word) (place - 1) (omega arith)
 
   pub digit-moved : (to : Directed) (p : Producer)
       → to ≡ advancedFrom (getD (d .radices) (place - 1) 0) (getD (d .word) (place - 1) 0) (getD (d .downs) (place - 1) false)

@@ -12,7 +12,7 @@ use lib.ListN.{length, getD}
 use Rattle.gray_theory.specs.Answers.{Answer, given, refused}
 use Rattle.gray_theory.specs.Bools.{impossible}
 use Rattle.gray_theory.specs.Changes.{Change}
-use Rattle.gray_theory.specs.Engines.{Event, moved, ended, NamesNotch, after, refusedWith}
+use Rattle.gray_theory.specs.Engines.{Event, moved, NamesNotch, after, refusedWith}
 use Rattle.gray_theory.specs.RunCalls.{refusal, runFrom}
 use Rattle.gray_theory.specs.SingleCalls.{stopped-run-leaves-its-moves}
 use Rattle.gray_theory.specs.Radices.{size}
@@ -55,7 +55,7 @@ module _ (w : Walk) where
 
 -- how a call on a state in range goes: it hands the state back, or it removes an entry, which ends the walk or moves a digit
 data CallGoes (w : Walk) : Type 0 where
-  stays : stepOf w .state ≡ w → ((e : Event) → stepOf w .answer ≡ given e → e ≡ ended) → CallGoes w
+  stays : stepOf w .state ≡ w → CallGoes w
   ends : w .ended ≡ false → 0 < twice w .queued → stepOf w ≡ endOf w (dequeued (twice w)) → CallGoes w
   moves : (k : ℕ)
       → w .ended ≡ false
@@ -92,16 +92,10 @@ unfolding stepOf
 call-goes w a ranged = go (w .ended) refl
   where
     go : (b : Bool) → w .ended ≡ b → CallGoes w
-    go true e =
-        let goes = ap (stepBy w) (goes-over w ranged e) in
-        let answers = ap (λ h. h .answer) goes in
-        stays (ap (λ h. h .state) goes) (λ v says. cc)
+    go true e = stays (ap (λ c. stepBy w c .state) (goes-over w ranged e))
     go false e =
         elim (ℕ-discrete (twice w .queued) 0) [
-          | yes z ↦
-              let goes = ap (stepBy w) (goes-dry w ranged e z) in
-              let answers = ap (λ h. h .answer) goes in
-              stays (ap (λ h. h .state) goes) (λ v says. impossible (cc))
+          | yes z ↦ stays (ap (λ c. stepBy w c .state) (goes-dry w ranged e z))
           | no z ↦
               let s = range-says w ranged in
               let long = survey-fills w s (a .directed .radices) in
@@ -136,7 +130,7 @@ module _ (w : Walk) (a : Arrays w) (ranged : inRange w ≡ true) where
 
   range-after : CallGoes w → stepOf w .state .moves < size (survey w) → inRange (stepOf w .state) ≡ true
   unfolding endOf moveOf dequeued digitMoved
-  range-after (stays e none) rank = rw e ranged
+  range-after (stays e) rank = rw e ranged
   range-after (ends going some e) rank =
       let s = range-says w ranged in
       let limit = steps-after going in
@@ -168,7 +162,7 @@ module _ (w : Walk) (a : Arrays w) (ranged : inRange w ≡ true) where
 
   arrays-after : CallGoes w → Arrays (stepOf w .state)
   unfolding endOf moveOf dequeued
-  arrays-after (stays e none) = subst Arrays (sym e) a
+  arrays-after (stays e) = subst Arrays (sym e) a
   arrays-after (ends going some e) =
       let r = reached-twice w (range-says w ranged) a in
       subst (λ h. Arrays (h .state)) (sym e)
@@ -188,40 +182,6 @@ module _ (w : Walk) (a : Arrays w) (ranged : inRange w ≡ true) where
 
   pub arrays-kept : Arrays (stepOf w .state)
   arrays-kept = arrays-after (call-goes w a ranged)
-
--- A move names the notch it reaches, from every state there is, made-up ones too: the notch answered is the digit's in the setting
--- handed back, one on from its notch before in the direction answered; and no other digit has moved.
-pub moves-name-their-notch : (w : Walk)
-    → Arrays w
-    → (c : Change) (notch : ℕ)
-    → stepOf w .answer ≡ given (moved c notch)
-    → NamesNotch c notch (setting w) (setting (stepOf w .state))
-unfolding stepOf endOf moveOf
-moves-name-their-notch w a c notch says = go (inRange w) refl
-  where
-    by : inRange w ≡ true → CallGoes w → NamesNotch c notch (setting w) (setting (stepOf w .state))
-    by ranged (stays e none) = let over = none (moved c notch) says in impossible (cc)
-    by ranged (ends going some e) = let over = ap (λ h. h .answer) e in impossible (cc)
-    by ranged (moves k going some low high two e) =
-        subst (λ h. NamesNotch c notch (setting w) (setting (h .state))) (sym e)
-        (move-names-its-notch (openCheck (w .capacity)) (w .directed) k (a .directed) low high
-        (says-word (openCheck (w .capacity)) (w .directed) (range-says w ranged .word))
-        c
-        notch
-        (sym (ap (λ h. h .answer) e) ∙ says))
-
-    go : (b : Bool) → inRange w ≡ b → NamesNotch c notch (setting w) (setting (stepOf w .state))
-    go true ranged = by ranged (call-goes w a ranged)
-    go false out = let over = ap (λ o. stepBy w o .answer) (goes-faulty w out) in impossible (cc)
-
--- a state that has made N moves is out of range
-pub past-the-end : (w : Walk) → size (survey w) ≤ w .moves → stepOf w ≡ refusedWith 7 w
-unfolding stepOf
-past-the-end w h = go (inRange w) refl
-  where
-    go : (b : Bool) → inRange w ≡ b → stepOf w ≡ refusedWith 7 w
-    go true e = let s = range-says w e in absurd (omega arith)
-    go false e = ap (stepBy w) (goes-faulty w e)
 
 -- a call that moves adds one move and keeps the survey
 one-move : (w : Walk) (c : Change) (notch : ℕ) (o : Course)
@@ -243,6 +203,40 @@ one-move w c notch removing e = by (eqb (getD (twice w .queue) 0 0) (w .directed
         → (cond b (endOf w p) (moveOf w k p) .state .moves ≡ w .moves + 1) × (survey (cond b (endOf w p) (moveOf w k p) .state) ≡ survey w)
     by true e = impossible (cc)
     by false e = (refl, refl)
+
+-- A move names the notch it reaches, from every state there is, made-up ones too: the notch answered is the digit's in the setting
+-- handed back, one on from its notch before in the direction answered; and no other digit has moved.
+pub moves-name-their-notch : (w : Walk)
+    → Arrays w
+    → (c : Change) (notch : ℕ)
+    → stepOf w .answer ≡ given (moved c notch)
+    → NamesNotch c notch (setting w) (setting (stepOf w .state))
+unfolding stepOf endOf moveOf
+moves-name-their-notch w a c notch says = go (inRange w) refl
+  where
+    by : inRange w ≡ true → CallGoes w → NamesNotch c notch (setting w) (setting (stepOf w .state))
+    by ranged (stays e) = let (more, same) = one-move w c notch (course w) says in let still = ap (λ v. v .moves) e in absurd (omega arith)
+    by ranged (ends going some e) = let over = ap (λ h. h .answer) e in impossible (cc)
+    by ranged (moves k going some low high two e) =
+        subst (λ h. NamesNotch c notch (setting w) (setting (h .state))) (sym e)
+        (move-names-its-notch (openCheck (w .capacity)) (w .directed) k (a .directed) low high
+        (range-says w ranged .word)
+        c
+        notch
+        (sym (ap (λ h. h .answer) e) ∙ says))
+
+    go : (b : Bool) → inRange w ≡ b → NamesNotch c notch (setting w) (setting (stepOf w .state))
+    go true ranged = by ranged (call-goes w a ranged)
+    go false out = let over = ap (λ o. stepBy w o .answer) (goes-faulty w out) in impossible (cc)
+
+-- a state that has made N moves is out of range
+pub past-the-end : (w : Walk) → size (survey w) ≤ w .moves → stepOf w ≡ refusedWith 7 w
+unfolding stepOf
+past-the-end w h = go (inRange w) refl
+  where
+    go : (b : Bool) → inRange w ≡ b → stepOf w ≡ refusedWith 7 w
+    go true e = let s = range-says w e in absurd (omega arith)
+    go false e = ap (stepBy w) (goes-faulty w e)
 
 -- a state that moves at j = N − 1 comes out with j = N, and its next call gets 7
 pub last-move-then-7 : (w : Walk) (c : Change) (notch : ℕ)

@@ -12,13 +12,14 @@ use Rattle.gray_theory.specs.Answers.{given}
 use Rattle.gray_theory.specs.MoveBytes.{moveByte}
 use Rattle.gray_theory.specs.Changes.{Change}
 use Rattle.gray_theory.specs.Engines.{moved, ended, refusedWith}
-use Rattle.gray_theory.specs.Directions.{digitInRange, wordMoved, downsMoved}
+use Rattle.gray_theory.specs.Directions.{wordMoved, downsMoved}
 use Rattle.gray_theory.specs.DirectedWords.{digitMoved, changeBy, eventBy}
 use Rattle.gray_theory.specs.Locks.{unlocked}
 use Rattle.gray_theory.specs.Sizes.{radix-two}
-use Rattle.gray_theory.specs.DigitRanges.{allBelow-each, digit-says, DigitRange}
+use Rattle.gray_theory.specs.DigitRanges.{DigitRange}
+use Rattle.gray_theory.specs.WordRanges.{digit-ranged}
 use Rattle.gray_theory.specs.Unlocked.{movingDigit, moving-once, length-moving, unlocked-two}
-use Rattle.ahead_theory.specs.States.{Producer, Walk, survey, movingRadices, inRange, Arrays}
+use Rattle.ahead_theory.specs.States.{Producer, Walk, survey, movingRadices, openCheck, inRange, Arrays}
 use Rattle.ahead_theory.specs.Work.{work}
 use Rattle.ahead_theory.specs.Calls.{once, twice, course, removing, dequeued, endOf, moveOf, stepBy, stepOf}
 use Rattle.ahead_theory.specs.InRange.{Ranged, range-says, survey-openable, survey-fills, moving-known, moving-radices-most, producer-says, Reached, reached-none, reached-more, reached-twice}
@@ -243,11 +244,7 @@ module _
             let to = numbers .within i (omega arith) in
             let same = st .n in
             subst (λ l. DigitRange (getD l (d - 1) 0) (getD (w .directed .word) (d - 1) 0) (getD (w .directed .downs) (d - 1) false)) (st .radices)
-            (digit-says (getD (w .directed .radices) (d - 1) 0) (getD (w .directed .word) (d - 1) 0) (getD (w .directed .downs) (d - 1) false)
-            (allBelow-each (w .directed .n) (λ j. digitInRange (getD (w .directed .radices) j 0) (getD (w .directed .word) j 0) (getD (w .directed .downs) j false))
-            (s .word .notches)
-            (d - 1)
-            (omega arith)))
+            (digit-ranged (openCheck (w .capacity)) (w .directed) (s .word) (d - 1) (omega arith))
 
         move-says : stepOf w .answer ≡ given (eventBy (w .directed) d)
         unfolding moveOf

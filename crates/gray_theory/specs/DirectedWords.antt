@@ -9,11 +9,10 @@ use lib.Dec.{leb}
 use lib.ListN.{length, getD, take, replicate}
 use Rattle.gray_theory.specs.Answers.{Answer, isGiven}
 use Rattle.gray_theory.specs.Arrays.{filled}
-use Rattle.gray_theory.specs.Words.{notchOf}
 use Rattle.gray_theory.specs.Changes.{Change}
 use Rattle.gray_theory.specs.Locks.{MovingDigits, unlocked, movingDigits, movingInRange}
 use Rattle.gray_theory.specs.Directions.{wordMoved, downsMoved, digitsInRange}
-use Rattle.gray_theory.specs.Engines.{Event, moved}
+use Rattle.gray_theory.specs.Engines.{Event, movedTo}
 
 -- the survey (radices and their number n), the digits that move, in rising order, the word, and the directions (down or not)
 pub record DirectedWord : Type 0 where
@@ -89,4 +88,4 @@ changeBy d k = record { digit = k; down = getD (d .downs) (k - 1) false }
 -- what the call that makes it says: the change, and the digit's notch in the setting that it leaves (document 02, "A move names the
 -- notch it reaches")
 abbrev pub eventBy : DirectedWord → ℕ → Event
-eventBy d k = moved (changeBy d k) (notchOf (settingIn (digitMoved d k)) k)
+eventBy d k = movedTo (changeBy d k) (settingIn (digitMoved d k))

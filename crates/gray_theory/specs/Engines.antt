@@ -38,9 +38,13 @@ after call s (suc t) = call (after call s t) .state
 abbrev pub answerOf : {S : Type 0} → (S → Handed S Event) → S → ℕ → Answer Event
 answerOf call s j = call (after call s (j - 1)) .answer
 
--- move j of the list: change j, and the notch of its digit in the setting of rank j
+-- a change that leads to a word, and the notch that its digit has come to there
+abbrev pub movedTo : Change → List ℕ → Event
+movedTo c w = moved c (notchOf w (c .digit))
+
+-- move j of the list: change j, to the setting of rank j
 abbrev pub moveAt : List ℕ → ℕ → Event
-moveAt ms j = moved (change ms j) (notchOf (member ms j) (change ms j .digit))
+moveAt ms j = movedTo (change ms j) (member ms j)
 
 -- call j names change j: it answers that digit and direction, and the notch, and hands back the setting of rank j
 pub record Names {S : Type 0} (call : S → Handed S Event) (setting : S → List ℕ) (ms : List ℕ) (s : S) (j : ℕ) : Type 0 where
@@ -48,7 +52,7 @@ pub record Names {S : Type 0} (call : S → Handed S Event) (setting : S → Lis
   pub hands-back : setting (after call s j) ≡ member ms j
 
 -- a move names the notch that it reaches: the digit's entry in the word after it, one more than the entry before on the way up, one
--- less on the way down; and no other digit moves
+-- less on the way down; and it is one of the word's digits, and the only one that moves
 pub record NamesNotch (c : Change) (notch : ℕ) (before after : List ℕ) : Type 0 where
   pub reached : notchOf after (c .digit) ≡ notch
   pub up : c .down ≡ false → notch ≡ suc (notchOf before (c .digit))

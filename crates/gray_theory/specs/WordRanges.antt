@@ -10,7 +10,7 @@ use borrow.Author.Tests.{le-leb, leb-true}
 use lib.Dec.{leb}
 use lib.ListN.{length, getD, set, take, length-set, length-reverse}
 use lib.Seq.{length-take-le, getD-take, getD-set-same, take-set-lt, take-all}
-use Rattle.gray_theory.specs.Answers.{Answer, given, refused, isGiven}
+use Rattle.gray_theory.specs.Answers.{Answer, given, isGiven}
 use Rattle.gray_theory.specs.Bools.{impossible}
 use Rattle.gray_theory.specs.Arrays.{filled, digitArray}
 use Rattle.gray_theory.specs.Radices.{digits, size, allFrom, Limits}
@@ -20,7 +20,7 @@ use Rattle.gray_theory.specs.Indexed.{wordAt}
 use Rattle.gray_theory.specs.Locks.{MovingDigits, movingDigits, movingInRange, MovingSays}
 use Rattle.gray_theory.specs.Directions.{movedFrom, digitInRange, digitsInRange}
 use Rattle.gray_theory.specs.DirectedWords.{DirectedWord, Rooms, surveyIn, movingIn, settingIn, freshWith, freshWord, wordInRange, digitMoved, changeBy, eventBy}
-use Rattle.gray_theory.specs.Engines.{Event, moved, ended, moveAt, NamesNotch}
+use Rattle.gray_theory.specs.Engines.{Event, moved, movedTo, moveAt, NamesNotch}
 use Rattle.gray_theory.specs.Members.{member-is-wordAt}
 use Rattle.gray_theory.specs.Sizes.{radix-two}
 use Rattle.gray_theory.specs.Filled.{take-filled, digit-array}
@@ -58,6 +58,13 @@ module _ (check : List ℕ → Answer Unit) (d : DirectedWord) where
 
     pub survey-long : length (d .radices) ≡ 48 → length (surveyIn d) ≡ d .n
     survey-long room = let most = r .most in length-take-le (d .n) (d .radices) (omega arith)
+
+    pub digit-tested : (i : ℕ) → i < d .n → digitInRange (getD (d .radices) i 0) (getD (d .word) i 0) (getD (d .downs) i false) ≡ true
+    digit-tested i h =
+        allBelow-each (d .n) (λ j. digitInRange (getD (d .radices) j 0) (getD (d .word) j 0) (getD (d .downs) j false)) (r .notches) i h
+
+    pub digit-ranged : (i : ℕ) → i < d .n → DigitRange (getD (d .radices) i 0) (getD (d .word) i 0) (getD (d .downs) i false)
+    digit-ranged i h = digit-says (getD (d .radices) i 0) (getD (d .word) i 0) (getD (d .downs) i false) (digit-tested i h)
 
 -- ---- the digit that moves at index i of those: its number and index among all digits, and its radix
 pub record DigitThere (d : DirectedWord) (i : ℕ) : Type 0 where
@@ -125,12 +132,12 @@ move-keeps-rooms d k a =
 pub entry-written : (word : List ℕ) (n i a : ℕ) → i < n → i < length word → getD (take n (set word i a)) i 0 ≡ a
 entry-written word n i a there room = getD-take n (set word i a) i 0 there ∙ getD-set-same word i a 0 room
 
-module _ (check : List ℕ → Answer Unit) (d : DirectedWord) (k : ℕ) (rooms : Rooms d) (low : 1 ≤ k) (high : k ≤ d .n) (e : wordInRange check d ≡ true) where
+module _ (check : List ℕ → Answer Unit) (d : DirectedWord) (k : ℕ) (rooms : Rooms d) (low : 1 ≤ k) (high : k ≤ d .n) (r : WordRange check d) where
   abbrev goesDown : Bool
-  goesDown = getD (d .downs) (k - 1) false
+  goesDown = changeBy d k .down
 
   setting-long : length (settingIn d) ≡ d .n
-  setting-long = let most = word-says check d e .most in let long = rooms .word in length-take-le (d .n) (d .word) (omega arith)
+  setting-long = let most = r .most in let long = rooms .word in length-take-le (d .n) (d .word) (omega arith)
 
   entry : notchOf (settingIn d) k ≡ getD (d .word) (k - 1) 0
   entry = getD-take (d .n) (d .word) (k - 1) 0 (omega arith)
@@ -142,28 +149,18 @@ module _ (check : List ℕ → Answer Unit) (d : DirectedWord) (k : ℕ) (rooms 
       ∙ ap (λ (a : ℕ). set (settingIn d) (k - 1) (movedFrom a goesDown)) (sym entry)
 
   notch-moved : notchOf (settingIn (digitMoved d k)) k ≡ movedFrom (notchOf (settingIn d) k) goesDown
-  unfolding digitMoved
   notch-moved =
-      let most = word-says check d e .most in
-      let long = rooms .word in
-      entry-written (d .word) (d .n) (k - 1) (movedFrom (getD (d .word) (k - 1) 0) goesDown) (omega arith) (omega arith)
-      ∙ ap (λ (a : ℕ). movedFrom a goesDown) (sym entry)
+      let long = setting-long in
+      ap (λ (w : List ℕ). notchOf w k) setting-moved
+      ∙ getD-set-same (settingIn d) (k - 1) (movedFrom (notchOf (settingIn d) k) goesDown) 0 (omega arith)
 
   -- on its way down the digit is not at 0
   not-shut : goesDown ≡ true → 0 < notchOf (settingIn d) k
   not-shut down =
       elim (ℕ-discrete (getD (d .word) (k - 1) 0) 0) [
-        | yes shut ↦ let up = in-range .up-at-0 shut in impossible (cc)
+        | yes shut ↦ let up = digit-ranged check d r (k - 1) (omega arith) .up-at-0 shut in impossible (cc)
         | no off ↦ let same = entry in omega arith
       ]
-    where
-      in-range : DigitRange (getD (d .radices) (k - 1) 0) (getD (d .word) (k - 1) 0) goesDown
-      in-range =
-          digit-says (getD (d .radices) (k - 1) 0) (getD (d .word) (k - 1) 0) goesDown
-          (allBelow-each (d .n) (λ i. digitInRange (getD (d .radices) i 0) (getD (d .word) i 0) (getD (d .downs) i false))
-          (word-says check d e .notches)
-          (k - 1)
-          (omega arith))
 
   names-its-notch : NamesNotch (changeBy d k) (notchOf (settingIn (digitMoved d k)) k) (settingIn d) (settingIn (digitMoved d k))
   names-its-notch = record {
@@ -173,8 +170,8 @@ module _ (check : List ℕ → Answer Unit) (d : DirectedWord) (k : ℕ) (rooms 
     alone =
         let number : suc (k - 1) ≡ k = omega arith in
         let long = setting-long in
-        rw (setting-moved) (subst (λ (x : ℕ). Moves x goesDown (settingIn d) (set (settingIn d) (k - 1) (movedFrom (notchOf (settingIn d) k) goesDown))) number
-        (set-moves (settingIn d) (k - 1) goesDown (omega arith) not-shut));
+        let moves = set-moves (settingIn d) (k - 1) goesDown (omega arith) not-shut in
+        rw (setting-moved) (subst (λ (x : ℕ). Moves x goesDown (settingIn d) (set (settingIn d) (k - 1) (movedFrom (notchOf (settingIn d) k) goesDown))) number moves);
   }
 
   -- what the call that makes it says
@@ -182,19 +179,9 @@ module _ (check : List ℕ → Answer Unit) (d : DirectedWord) (k : ℕ) (rooms 
       → _≡_ {A = Answer Event} (given (eventBy d k)) (given (moved c notch))
       → NamesNotch c notch (settingIn d) (settingIn (digitMoved d k))
   move-names-its-notch c notch says =
-      subst (λ (e : Event). NamesNotch (changeOf e) (reachedBy e) (settingIn d) (settingIn (digitMoved d k))) (ap eventOf says) names-its-notch
-    where
-      eventOf : Answer Event → Event
-      eventOf (given e) = e
-      eventOf (refused x) = ended
-
-      changeOf : Event → Change
-      changeOf (moved c notch) = c
-      changeOf ended = record { digit = 0; down = false }
-
-      reachedBy : Event → ℕ
-      reachedBy (moved c notch) = notch
-      reachedBy ended = 0
+      let change : c ≡ changeBy d k = cc in
+      let reached : notch ≡ notchOf (settingIn (digitMoved d k)) k = cc in
+      rw (change, reached) names-its-notch
 
 -- ---- lent radices in an array, and the digits of it that move: what an opening begins with
 module _ (l : List ℕ) (most : length l ≤ 48) (array : List ℕ) (made : array ≡ digitArray l) where
@@ -269,5 +256,4 @@ module _ (ms : List ℕ) where
 
     pub directed-event : suc r < size ms → eventBy (directedAt ms r) (suc i) ≡ moveAt ms (suc r)
     directed-event below =
-        ap₂ moved (directed-change below)
-        (ap₂ notchOf (ap settingIn directed-moves ∙ member-at (suc r) below) (ap (λ (c : Change). c .digit) (directed-change below)))
+        ap₂ movedTo (directed-change below) (ap settingIn directed-moves ∙ member-at (suc r) below)

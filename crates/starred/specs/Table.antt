@@ -180,6 +180,7 @@ table =
     ∷ row (lists (lists numbers)) (map (settingAfter (walk (2 ∷ 1 ∷ 3 ∷ []) 1)) (upward 6)) (wordsOf (2 ∷ 1 ∷ 3 ∷ []))
     ∷ row (lists (lists numbers)) (map (diskSettingAfter (disks (3 ∷ 1 ∷ 5 ∷ []))) (upward 15)) (wordsOf (3 ∷ 1 ∷ 5 ∷ []))
     ∷ row (lists (lists numbers)) (map (diskSettingAfter (disks (1 ∷ 2 ∷ 1 ∷ 2 ∷ 2 ∷ []))) (upward 8)) (wordsOf (1 ∷ 2 ∷ 1 ∷ 2 ∷ 2 ∷ []))
+    -- what the disks answer then: the notch named is that of sluice 3, which is disk 2
     ∷ row (lists (answers events)) (map (answerOf stepDisks (disks (3 ∷ 1 ∷ 3 ∷ []))) (1 ∷ 2 ∷ 3 ∷ 4 ∷ 5 ∷ 6 ∷ 7 ∷ 8 ∷ 9 ∷ []))
     (names (up 1) 1 ∷ names (up 1) 2 ∷ names (up 3) 1 ∷ names (down 1) 1 ∷ names (down 1) 0 ∷ names (up 3) 2 ∷ names (up 1) 1 ∷ names (up 1) 2 ∷ end ∷ [])
     ∷ row (lists (answers events)) (map (answerOf stepDisks (disks (1 ∷ 2 ∷ 1 ∷ 2 ∷ []))) (1 ∷ 2 ∷ 3 ∷ 4 ∷ []))

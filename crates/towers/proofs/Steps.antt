@@ -13,12 +13,11 @@ use Rattle.gray_theory.specs.Answers.{given}
 use Rattle.gray_theory.specs.Words.{even}
 use Rattle.gray_theory.specs.Directions.{wordMoved, downsMoved, digitInRange}
 use Rattle.gray_theory.specs.DirectedWords.{digitMoved}
-use Rattle.gray_theory.specs.WordRanges.{DigitThere, entry-written}
+use Rattle.gray_theory.specs.WordRanges.{DigitThere, digit-tested, entry-written}
 use Rattle.digit.specs.Advances.{advancedFrom, digit-advanced}
-use Rattle.gray_theory.specs.DigitRanges.{allBelow-each}
 use Rattle.gray_theory.specs.Engines.{moved, ended, refusedWith}
 use Rattle.digit.specs.declared.Directed.{Directed}
-use Rattle.towers_theory.specs.States.{Towers, allOdd, common, survey, disks, inRange, Arrays}
+use Rattle.towers_theory.specs.States.{Towers, allOdd, common, openCheck, survey, disks, inRange, Arrays}
 use Rattle.towers_theory.specs.Choices.{sidePeg, digitOf, pegOf, smallest, onPair, sweeping, isTop, elsewhere}
 use Rattle.towers_theory.specs.Choices.{chosenOnPair, chosenOnRing, chosen}
 use Rattle.towers_theory.specs.Calls.{turnBy, turnAfter, pegAfter, pegsAfter, moveOf, moveBy, stepOf}
@@ -211,11 +210,7 @@ module _ (s : Towers) (long : Arrays s) (ranged : inRange s ≡ true) where
             ≡ true
         digit-moves =
             let j = here .index in
-            let ranged-there =
-            allBelow-each (s .directed .n) (λ j. digitInRange (getD (s .directed .radices) j 0) (getD (s .directed .word) j 0) (getD (s .directed .downs) j false))
-            (says .word .notches)
-            j
-            (here .within) in
+            let ranged-there = digit-tested openCheck (s .directed) (says .word) j (here .within) in
             rw at-index (ap₂ _&&_ (le-leb 2 (getD (s .directed .radices) j 0) (here .two)) ranged-there)
 
         pub movable : Movable (s .directed .radices) at (s .directed .word) (s .directed .downs)

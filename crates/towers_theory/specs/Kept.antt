@@ -169,7 +169,7 @@ moves-name-their-notch s a c notch = go (inRange s) refl
         let number = d .number in
         let inside = d .within in
         move-names-its-notch openCheck (s .directed) (digitOf s i) (a .directed) (omega arith) (omega arith)
-        (says-word openCheck (s .directed) (range-says s ranged .word))
+        (range-says s ranged .word)
         c
         notch
         says

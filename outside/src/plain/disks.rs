@@ -1,4 +1,4 @@
-//! The disk engine on a state by reference: runs of moves, each of which tests the range rule once.
+//! The disk engine on a state by reference: single calls, and runs of moves, each of which tests the range rule once.
 use super::engine::{all, put_moves, room_for, Digits, Step, INDICES};
 use super::words::MOST_DIGITS;
 use crate::run::Run;

@@ -125,8 +125,8 @@ impl Digits {
         })
     }
 
-    /// A digit moves one notch in its direction, which turns at either end. The move as a byte: the digit, the top bit set for
-    /// down.
+    /// A digit moves one notch in its direction, which turns at either end. The answer: the move as a byte, which is the digit
+    /// with the top bit set for down, and the digit's notch then.
     #[inline]
     pub fn advance(&mut self, i: usize) -> Step {
         let (m, digit, down) = (self.radices[i], &mut self.word[i], &mut self.downs[i]);

@@ -1,5 +1,5 @@
-//! The plain calls answer what the library answers, refusals too; single calls, which it does not offer, and Algorithm H answer
-//! what the second program does.
+//! The plain calls answer what the library answers, refusals too. Single calls, which the library does not offer to C, and
+//! Algorithm H are held to the second program.
 use super::engine::Digits;
 use super::{algorithm_h, disks, list, log, walk, words, Step};
 use crate::capi::{self, Answer};
@@ -104,6 +104,20 @@ fn step(answer: second::Answer) -> Step {
     }
 }
 
+/// Two engines opened on one survey: refused alike, or 300 calls of each answer the same.
+fn steps_alike<P, S>(
+    (plain, other): (Result<P, u8>, Result<S, u8>),
+    plain_step: impl Fn(&mut P) -> Step,
+    other_step: impl Fn(&mut S) -> second::Answer,
+) {
+    match (plain, other) {
+        (Ok(mut plain), Ok(mut other)) => {
+            (0..300).for_each(|_| assert_eq!(plain_step(&mut plain), step(other_step(&mut other))));
+        }
+        (plain, other) => assert_eq!(plain.err(), other.err()),
+    }
+}
+
 /// Single calls name the sluice, the direction and the notch; some walks run dry, some come to their end.
 #[test]
 fn single_calls_are_alike() {
@@ -111,12 +125,10 @@ fn single_calls_are_alike() {
     for _ in 0..1_000 {
         let radices = survey(&mut chance);
         let capacity = (enough(&radices) + chance.between(0, 1) - 1).clamp(1, 32);
-        if let (Ok(mut plain), Ok(mut other)) = (walk::Walk::open(&radices, capacity), buffered::Walk::open(&radices, capacity)) {
-            assert!((0..300).all(|_| plain.step() == step(other.step())), "{radices:?}");
-        }
-        if let (Ok(mut plain), Ok(mut other)) = (disks::Disks::open(&radices), second::disks::Disks::open(&radices)) {
-            assert!((0..300).all(|_| plain.step() == step(other.step())), "{radices:?}");
-        }
+        let walks = (walk::Walk::open(&radices, capacity), buffered::Walk::open(&radices, capacity));
+        steps_alike(walks, walk::Walk::step, buffered::Walk::step);
+        let games = (disks::Disks::open(&radices), second::disks::Disks::open(&radices));
+        steps_alike(games, disks::Disks::step, second::disks::Disks::step);
     }
 }
 

@@ -1,5 +1,4 @@
-//! The disk engine: document 01, "The disk engine", document 02, requests 3 and 4, and document 004, sections 7
-//! and 8.
+//! The disk engine: document 01, "The disk engine", document 02, requests 3, 4 and 8, and document 004, sections 7 and 8.
 //!
 //! Disk i is the i-th of the moving sluices; a locked one is no disk.
 use super::run::{self, Ran};

@@ -211,6 +211,7 @@ fn moves_name_their_notch() {
             assert!(disks.iter_mut().all(|disks| disks.step() == answer));
         }
         assert_eq!(walk.step(), Answer::End);
+        assert!(disks.iter_mut().all(|disks| disks.step() == Answer::End));
     }
 }
 
