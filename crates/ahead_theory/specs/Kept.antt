@@ -1,5 +1,5 @@
 -- The range rule is kept by every accepted call but one that moves from j = N − 1, whose next call gets 7; so does every call on a
--- closed walk.
+-- closed walk. A call that moves names the notch it reaches.
 use Prim.Native.Nat.{ℕ, suc, _+_, _-_, _*_, _≤_, _<_}
 use native.Mathlib.Decide.{ℕ-discrete}
 use native.Mathlib.Omega.{arith}
@@ -183,6 +183,15 @@ module _ (w : Walk) (a : Arrays w) (ranged : inRange w ≡ true) where
   pub arrays-kept : Arrays (stepOf w .state)
   arrays-kept = arrays-after (call-goes w a ranged)
 
+-- a state that has made N moves is out of range
+pub past-the-end : (w : Walk) → size (survey w) ≤ w .moves → stepOf w ≡ refusedWith 7 w
+unfolding stepOf
+past-the-end w h = go (inRange w) refl
+  where
+    go : (b : Bool) → inRange w ≡ b → stepOf w ≡ refusedWith 7 w
+    go true e = let s = range-says w e in absurd (omega arith)
+    go false e = ap (stepBy w) (goes-faulty w e)
+
 -- a call that moves adds one move and keeps the survey
 one-move : (w : Walk) (c : Change) (notch : ℕ) (o : Course)
     → stepBy w o .answer ≡ given (moved c notch)
@@ -228,15 +237,6 @@ moves-name-their-notch w a c notch says = go (inRange w) refl
     go : (b : Bool) → inRange w ≡ b → NamesNotch c notch (setting w) (setting (stepOf w .state))
     go true ranged = by ranged (call-goes w a ranged)
     go false out = let over = ap (λ o. stepBy w o .answer) (goes-faulty w out) in impossible (cc)
-
--- a state that has made N moves is out of range
-pub past-the-end : (w : Walk) → size (survey w) ≤ w .moves → stepOf w ≡ refusedWith 7 w
-unfolding stepOf
-past-the-end w h = go (inRange w) refl
-  where
-    go : (b : Bool) → inRange w ≡ b → stepOf w ≡ refusedWith 7 w
-    go true e = let s = range-says w e in absurd (omega arith)
-    go false e = ap (stepBy w) (goes-faulty w e)
 
 -- a state that moves at j = N − 1 comes out with j = N, and its next call gets 7
 pub last-move-then-7 : (w : Walk) (c : Change) (notch : ℕ)

@@ -1,5 +1,5 @@
--- The range rule is kept by every call, also from a made-up state; for odd radices the stored pegs play no part; and a closed game
--- gets 7.
+-- The range rule is kept by every call, also from a made-up state; a call that moves names the notch it reaches; for odd radices the
+-- stored pegs play no part; and a closed game gets 7.
 use Prim.Native.Nat.{ℕ, suc, _-_, _≤_, _<_}
 use native.Mathlib.Decide.{decLt, ℕ-discrete}
 use native.Mathlib.Omega.{arith}
