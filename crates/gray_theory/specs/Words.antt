@@ -36,7 +36,7 @@ list (m ∷ ms) = through m 0 (list ms)
 abbrev pub member : List ℕ → ℕ → List ℕ
 member ms r = getD (list ms) r []
 
--- the notch of digit k in a setting
+-- document 01's a_k: the notch of digit k in a setting
 abbrev pub notchOf : List ℕ → ℕ → ℕ
 notchOf w k = getD w (k - 1) 0
 
