@@ -2,19 +2,18 @@
 use Prim.Native.Nat.{ℕ, _+_, _-_, _≤_, _<_}
 use native.Mathlib.Omega.{arith}
 use mathlib.Core.Path.{_≡_, sym, ap, ap₂, subst, _∙_}
-use mathlib.Core.Bool.{Bool, true, false, cond, _&&_, and-eq-true-iff}
+use mathlib.Core.Bool.{Bool, true, false, cond, _&&_}
 use mathlib.Core.List.{List, [], _∷_, _++_}
-use borrow.Author.Tests.{lt-ltb, le-ltb, le-leb, eq-eqb, ne-eqb}
-use lib.Dec.{eqb, leb}
+use borrow.Author.Tests.{lt-ltb, le-ltb, eq-eqb, ne-eqb}
+use lib.Dec.{eqb}
 use lib.ListN.{length, getD, set, take, drop, length-map, List·getD-append}
 use lib.Seq.{length-take-le, getD-take, getD-at}
 use Rattle.gray_theory.specs.Answers.{given}
 use Rattle.gray_theory.specs.Unlocked.{looked-up-at}
-use Rattle.gray_theory.specs.Directions.{movedFrom, digitInRange}
-use Rattle.gray_theory.specs.WordRanges.{digit-tested, entry-written}
-use Rattle.gray_theory.specs.DirectedWords.{DirectedWord, digitMoved}
-use Rattle.digit.specs.Advances.{advancedFrom, digit-advanced}
-use Rattle.gray_theory.specs.Engines.{moved, ended, refusedWith}
+use Rattle.gray_theory.specs.DirectedWords.{DirectedWord}
+use Rattle.gray_theory.specs.Engines.{Event, moved, ended, refusedWith}
+use Rattle.digit.specs.Advances.{advancedFrom}
+use Rattle.digit.specs.DirectedMoves.{written-is-moved, written-is-named}
 use Rattle.digit.specs.declared.Directed.{Directed}
 use Rattle.ahead_theory.specs.States.{Producer, Walk, movingRadices, places, openCheck, inRange, Arrays}
 use Rattle.ahead_theory.specs.Work.{countAt, radixAt, runOut, done, work}
@@ -142,9 +141,6 @@ module _ (w : Walk) (k : ℕ) (ok : DigitToMove w k) (place : ℕ) (wide : place
   abbrev d : DirectedWord
   d = w .directed
 
-  digit-ranged : digitInRange (getD (d .radices) (place - 1) 0) (getD (d .word) (place - 1) 0) (getD (d .downs) (place - 1) false) ≡ true
-  digit-ranged = digit-tested (openCheck (w .capacity)) d (ok .word) (place - 1) (omega arith)
-
   pub digit-moved : (to : Directed) (p : Producer)
       → to ≡ advancedFrom (getD (d .radices) (place - 1) 0) (getD (d .word) (place - 1) 0) (getD (d .downs) (place - 1) false)
       → record {
@@ -166,19 +162,17 @@ module _ (w : Walk) (k : ℕ) (ok : DigitToMove w k) (place : ℕ) (wide : place
         answer = given (moved (record { digit = k; down = getD (d .downs) (place - 1) false }) (to .digit));
       }
       ≡ moveOf w k p
-  unfolding moveOf digitMoved
+  unfolding moveOf
   digit-moved to p e =
-      let made =
-      e
-      ∙ digit-advanced (getD (d .radices) (place - 1) 0) (getD (d .word) (place - 1) 0) (getD (d .downs) (place - 1) false)
-      (and-eq-true-iff (leb 2 (getD (d .radices) (place - 1) 0))
-      (digitInRange (getD (d .radices) (place - 1) 0) (getD (d .word) (place - 1) 0) (getD (d .downs) (place - 1) false))
-      .1
-      (le-leb 2 (getD (d .radices) (place - 1) 0) (rw wide (ok .digit .two)), digit-ranged)) in
-      let long = ok .rooms .word in
-      let most = ok .word .most in
-      rw
-      (made, wide, entry-written (d .word) (d .n) (k - 1) (movedFrom (getD (d .word) (k - 1) 0) (getD (d .downs) (k - 1) false)) (omega arith) (omega arith))
+      let low = ok .digit .from-one in
+      let high = ok .digit .digit in
+      let number : place - 1 + 1 ≡ k = omega arith in
+      let two : 2 ≤ getD (d .radices) (place - 1) 0 = rw wide (ok .digit .two) in
+      ap₂
+      (λ (v : DirectedWord) (o : Event).
+      record { state = record { directed = v; producer = p; capacity = w .capacity; moves = w .moves + 1; ended = false }; answer = given o })
+      (written-is-moved (openCheck (w .capacity)) d (ok .word) (ok .rooms) (place - 1) k number (omega arith) two to e)
+      (written-is-named (openCheck (w .capacity)) d (ok .word) (ok .rooms) (place - 1) k number (omega arith) two to e)
 
 -- ---- step
 -- a call whose state is out of range, or has ended

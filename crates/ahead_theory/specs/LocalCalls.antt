@@ -3,7 +3,7 @@ use Prim.Native.Nat.{ℕ, suc, _+_, _-_, _≤_, _<_}
 use native.Mathlib.Decide.{decLt, ℕ-discrete}
 use native.Mathlib.Omega.{arith}
 use mathlib.Core.Path.{_≡_, refl, sym, ap, ap₂, subst, _∙_}
-use mathlib.Core.Bool.{true, false}
+use mathlib.Core.Bool.{Bool, true, false}
 use mathlib.Core.List.{List, [], _∷_}
 use borrow.Author.Tests.{eq-eqb, ne-eqb}
 use lib.ListN.{length, getD, take, List·getD-append}
@@ -167,6 +167,21 @@ module _
       removed : Ahead (movingRadices w₀) tops (w₀ .producer .counter) (h + 1) (dequeued (twice w)) g
       removed = fast-removes (movingRadices w₀) tops (w₀ .producer .counter) h (twice w) g queued ahead-twice
 
+      -- the state that a removal leaves, with this word and these directions
+      stands-with : (word : List ℕ) (downs : List Bool) (made : ℕ) (over : Bool) (newLeft newBytes : List ℕ)
+          → Notches (w₀ .directed .moving .digits) (w₀ .directed .moving .count) tops (w₀ .directed .word) (w₀ .directed .downs) word downs newLeft newBytes
+          → Stands w₀
+          (record {
+            directed = record { radices = w .directed .radices; n = w .directed .n; moving = w .directed .moving; word = word; downs = downs };
+            producer = dequeued (twice w);
+            capacity = w .capacity;
+            moves = made;
+            ended = over;
+          })
+          (h + 1) tops newLeft newBytes g
+      stands-with word downs made over newLeft newBytes notches =
+          record { radices = st .radices; n = st .n; moving = st .moving; capacity = st .capacity; ahead = removed; notches = notches }
+
       -- the entry of the end
       ends-here : entry ≡ last → stepOf w ≡ endOf w (dequeued (twice w))
       ends-here e = removes-last w removes (oldest ∙ e ∙ last-is ∙ ap (λ k. k + 1) (sym same-count))
@@ -175,14 +190,7 @@ module _
       unfolding endOf
       ended-stands e =
           subst (λ z. Stands w₀ (z .state) (h + 1) tops left bytes g) (sym (ends-here e))
-          (record {
-            radices = st .radices;
-            n = st .n;
-            moving = st .moving;
-            capacity = st .capacity;
-            ahead = removed;
-            notches = st .notches;
-          })
+          (stands-with (w .directed .word) (w .directed .downs) (w .moves) true left bytes (st .notches))
 
       end-leaves : entry ≡ last
           → (stepOf w .answer ≡ given ended) × (stepOf w .state .ended ≡ true) × (stepOf w .state .moves ≡ w .moves)
@@ -299,14 +307,13 @@ module _
         moved-stands =
             subst (λ z. Stands w₀ (z .state) (h + 1) tops (leftMoved tops left entry) (bytesMoved left bytes entry) g)
             (sym moves-here)
-            (record {
-              radices = st .radices;
-              n = st .n;
-              moving = st .moving;
-              capacity = st .capacity;
-              ahead = removed;
-              notches = notches-there;
-            })
+            (stands-with (wordMoved (w .directed .word) (w .directed .downs) (d - 1))
+            (downsMoved (w .directed .radices) (w .directed .word) (w .directed .downs) (d - 1))
+            (w .moves + 1)
+            false
+            (leftMoved tops left entry)
+            (bytesMoved left bytes entry)
+            notches-there)
 
     -- the call on the lists goes as the engine's call does
     pub call-answers : Answered w₀ w h tops (fastCall tops last c h f left bytes)

@@ -5,17 +5,17 @@ use mathlib.Core.Path.{_≡_, refl, sym, ap, ap₂, _∙_}
 use mathlib.Core.Bool.{Bool, true, false, cond, _&&_, not}
 use mathlib.Core.List.{List}
 use mathlib.Core.Option.{Option, none, some}
-use borrow.Author.Tests.{lt-ltb, le-ltb, le-leb}
-use lib.Dec.{eqb, leb}
+use borrow.Author.Tests.{lt-ltb, le-ltb}
+use lib.Dec.{eqb}
 use lib.ListN.{length, getD, set, take}
 use lib.Seq.{length-take-le, getD-take, set-getD}
 use Rattle.gray_theory.specs.Answers.{given}
 use Rattle.gray_theory.specs.Words.{even}
-use Rattle.gray_theory.specs.Directions.{wordMoved, downsMoved, digitInRange}
-use Rattle.gray_theory.specs.DirectedWords.{digitMoved}
-use Rattle.gray_theory.specs.WordRanges.{DigitThere, digit-tested, entry-written}
-use Rattle.digit.specs.Advances.{advancedFrom, digit-advanced}
-use Rattle.gray_theory.specs.Engines.{moved, ended, refusedWith}
+use Rattle.gray_theory.specs.WordRanges.{DigitThere}
+use Rattle.gray_theory.specs.Engines.{Event, moved, ended, refusedWith}
+use Rattle.digit.specs.Advances.{advancedFrom}
+use Rattle.digit.specs.DirectedMoves.{digit-moves, written-is-moved, written-is-named}
+use Rattle.towers_theory.specs.Canonical.{same-towers}
 use Rattle.digit.specs.declared.Directed.{Directed}
 use Rattle.towers_theory.specs.States.{Towers, allOdd, common, openCheck, survey, disks, inRange, Arrays}
 use Rattle.towers_theory.specs.Choices.{sidePeg, digitOf, pegOf, smallest, onPair, sweeping, isTop, elsewhere}
@@ -205,13 +205,11 @@ module _ (s : Towers) (long : Arrays s) (ranged : inRange s ≡ true) where
             let most = says .word .most in
             omega arith
 
-        digit-moves : leb 2 (getD (s .directed .radices) at 0)
-            && digitInRange (getD (s .directed .radices) at 0) (getD (s .directed .word) at 0) (getD (s .directed .downs) at false)
-            ≡ true
-        digit-moves =
-            let j = here .index in
-            let ranged-there = digit-tested openCheck (s .directed) (says .word) j (here .within) in
-            rw at-index (ap₂ _&&_ (le-leb 2 (getD (s .directed .radices) j 0) (here .two)) ranged-there)
+        within-digits : at < s .directed .n
+        within-digits = let is = at-index in let inside = here .within in omega arith
+
+        two-there : 2 ≤ getD (s .directed .radices) at 0
+        two-there = rw at-index (here .two)
 
         pub movable : Movable (s .directed .radices) at (s .directed .word) (s .directed .downs)
         movable =
@@ -219,17 +217,13 @@ module _ (s : Towers) (long : Arrays s) (ranged : inRange s ≡ true) where
             let room = long .directed .radices in
             let word = long .directed .word in
             let downs = long .directed .downs in
-            record { few = few; radix = omega arith; notch = omega arith; direction = omega arith; stands = digit-moves }
-
-        -- the notch that is written is the digit's in the setting
-        notch-there : (a : ℕ) (word : List ℕ) → set (s .directed .word) at a ≡ word → a ≡ getD (take (s .directed .n) word) at 0
-        notch-there a word e =
-            let is = at-index in
-            let inside = here .within in
-            let few = digit-fits in
-            let room = long .directed .word in
-            sym (entry-written (s .directed .word) (s .directed .n) at a (omega arith) (omega arith))
-            ∙ ap (λ l. getD (take (s .directed .n) l) at 0) e
+            record {
+              few = few;
+              radix = omega arith;
+              notch = omega arith;
+              direction = omega arith;
+              stands = digit-moves openCheck (s .directed) (says .word) (long .directed) at (digitOf s i) named within-digits two-there;
+            }
 
         pub disk-moved : (to : Directed) (newPegs : List ℕ) (turn : ℕ)
             → to ≡ advancedFrom (getD (s .directed .radices) at 0) (getD (s .directed .word) at 0) (getD (s .directed .downs) at false)
@@ -252,16 +246,12 @@ module _ (s : Towers) (long : Arrays s) (ranged : inRange s ≡ true) where
               answer = given (moved (record { digit = at + 1; down = getD (s .directed .downs) at false }) (to .digit));
             }
             ≡ moveOf s i
-        unfolding moveOf digitMoved
+        unfolding moveOf
         disk-moved to newPegs turn e f g =
-            let gone =
-            e
-            ∙ digit-advanced (getD (s .directed .radices) at 0) (getD (s .directed .word) at 0) (getD (s .directed .downs) at false)
-            digit-moves in
-            let word : set (s .directed .word) at (to .digit) ≡ wordMoved (s .directed .word) (s .directed .downs) at =
-            ap (λ t. set (s .directed .word) at (t .digit)) gone in
-            let downs : set (s .directed .downs) at (to .down) ≡ downsMoved (s .directed .radices) (s .directed .word) (s .directed .downs) at =
-            ap (λ t. set (s .directed .downs) at (t .down)) gone in
+            let directed =
+            written-is-moved openCheck (s .directed) (says .word) (long .directed) at (digitOf s i) named within-digits two-there to e in
+            let event =
+            written-is-named openCheck (s .directed) (says .word) (long .directed) at (digitOf s i) named within-digits two-there to e in
             let pegs : newPegs ≡ pegsAfter s i =
             f
             ∙ ap (λ o. cond o (s .pegs) (set (s .pegs) i (pegAfter m i (getD (s .pegs) i 0)))) (sym (leads .odd))
@@ -273,9 +263,8 @@ module _ (s : Towers) (long : Arrays s) (ranged : inRange s ≡ true) where
             ∙ ap (λ o. turnBy o m (s .turn)) (sym (leads .odd))
             ∙ under-cond (allOdd (disks s)) (1 - s .turn) (turnBy false m (s .turn)) (turnBy false (common (disks s)) (s .turn))
             (λ ring. ap (λ n. turnBy false n (s .turn)) (sym (leads .ring ring))) in
-            let index : at ≡ digitOf s i - 1 = omega arith in
-            let notch = notch-there (to .digit) (wordMoved (s .directed .word) (s .directed .downs) at) word in
-            rw (word, notch, downs, pegs, next, named, index)
+            ap₂ (λ (v : Towers) (o : Event). record { state = v; answer = given o }) (same-towers directed next pegs)
+            (ap (λ k. moved (record { digit = k; down = getD (s .directed .downs) at false }) (to .digit)) named ∙ event)
 
 -- ---- step
 module _ (s : Towers) where
