@@ -1,7 +1,7 @@
 /* Every call that gray.h declares, so that a wrong declaration is noticed. C passes a number that stands in another's place, or
  * that is cut to 32 bits, without a word; so the numbers of a call all differ (but for the length of a setting, which has to be
  * n), some are over 2^32, and what the calls answer and leave in the lent memory is compared with header.out, which is worked
- * out from document 01. The numbers go through variables, so that -Wconversion tells of a parameter that is too narrow.
+ * out from documents 01 and 02. The numbers go through variables, so that -Wconversion tells of a parameter that is too narrow.
  * tests/header tells whether a call is left out. From the repository's root, once `rt staticlib capi` has made the library:
  *     cc -Wall -Wextra -Wconversion -Werror -I outside/include -o target/header outside/header.c target/staticlib/libcapi.a
  *     target/header | cmp - outside/header.out */
@@ -25,14 +25,17 @@ static const uint8_t zero[49] = {2, 0, 3};
 static const uint8_t many[49] = {4, 4, 4, 4, 4, 4, 4, 4, 4, 4, 4, 4, 4, 4, 4, 4, 4, 4, 4, 4, 4, 4, 4, 4, 4,
                                  4, 4, 4, 4, 4, 4, 2, 2, 2, 2, 2, 2, 2, 2, 2, 2, 2, 2, 2, 2, 2, 2, 2, 2};
 
-/* Memory to lend: the bytes lent and those behind them all differ, and come as they are here before each call. */
+/* Memory to lend: the places lent and those behind them all differ, and come as they are here before each call. No half of a
+ * count is 0, so one of another width shows. */
 enum { MEMORY = 64, GUARD = 3 };
 static uint8_t out[MEMORY];
+static uint32_t counts_out[MEMORY];
 static uint64_t made;
 
 static void fill(void) {
     for (size_t i = 0; i < MEMORY; i++) {
         out[i] = (uint8_t)(0xa0 + i);
+        counts_out[i] = 0xa0b0c0d0 + 0x01010101 * (uint32_t)i;
     }
     made = 77;
 }
@@ -120,6 +123,30 @@ static void log_write(const uint8_t *radices, size_t n, size_t capacity, uint64_
 static void log_read(const uint8_t *log, size_t len) {
     print_counts("log_read", log, len);
     printf(" = %" PRId64 "\n", VALUE(gray_log_read(log, len)));
+}
+
+/* Lines, with a / for each newline. */
+static void print_file(const char *name, const uint8_t *file, size_t len) {
+    printf("%s ", name);
+    for (size_t i = 0; i < len; i++) {
+        putchar(file[i] == '\n' ? '/' : file[i]);
+    }
+    printf(len ? "" : "none");
+}
+
+static void tide_counts(const uint8_t *file, size_t len, size_t room) {
+    fill();
+    print_file("tide_counts", file, len);
+    printf(" = %" PRId64 " |", VALUE(gray_tide_counts(file, len, counts_out, room)));
+    for (size_t i = 0; i < room + GUARD; i++) {
+        printf(i == room ? " | %08" PRIx32 : " %08" PRIx32, counts_out[i]);
+    }
+    printf("\n");
+}
+
+static void tide_may_begin(const uint8_t *file, size_t len, uint64_t minute) {
+    print_file("tide_may_begin", file, len);
+    printf(", minute %" PRIu64 " = %" PRId64 "\n", minute, VALUE(gray_tide_may_begin(file, len, minute)));
 }
 
 int main(void) {
@@ -222,5 +249,33 @@ int main(void) {
     log_read(too_many, 27);
     log_read(no_place, 6);
     log_read(five, 19);
+
+    /* five lines of 19 bytes, with two windows: the second is of two years, so that its moves are over 2^16 */
+    const uint8_t tides[] = "2031-04-07,05:12,H\n2031-04-07,11:20,L\n2031-04-07,17:31,H\n"
+                            "2033-04-08,00:02,L\n2033-04-08,06:00,H\n";
+    const uint8_t equal[] = "2031-04-07,05:12,H\n2031-04-07,05:12,L\n2031-04-07,11:20,H\n2031-02-29,11:21,L\n";
+    const uint64_t first = 16443732, last = 16444036;
+    tide_counts(tides, 95, 4);
+    tide_counts(tides, 95, 2);
+    tide_counts(tides, 38, 3);
+    tide_counts(tides, 19, 2);
+    tide_counts(tides, 0, 2);
+    tide_counts(tides, 94, 4);
+    tide_counts(equal, 76, 5);
+    tide_counts(equal, 57, 5);
+    tide_counts(equal, 38, 0);
+    tide_counts(tides, 95, 1);
+    tide_counts(tides, 95, 0);
+
+    tide_may_begin(tides, 95, first - 1);
+    tide_may_begin(tides, 95, first);
+    tide_may_begin(tides, 38, last);
+    tide_may_begin(tides, 38, last + 1);
+    tide_may_begin(tides, 57, OVER + first);
+    tide_may_begin(tides, 57, UINT64_MAX - 3);
+    tide_may_begin(tides, 0, first);
+    tide_may_begin(tides, 94, first);
+    tide_may_begin(equal, 76, first);
+    tide_may_begin(equal, 57, OVER + first);
     return 0;
 }

@@ -1,10 +1,11 @@
 /* The calls of the proved library for C and for Rust (target/staticlib/libcapi.a, made by `rt staticlib capi`).
  *
  * A survey is n notch counts (radices), sluice n first; so are the notches of a setting. Each call returns a value, or minus
- * the number of the refusal (document 01, "Turned down, in checking order"). No call has a precondition but C's own: a pointer
- * and the length after it are memory that may be read, or for `out` written, and `made` may be written; where a length is 0 the
- * pointer must still not be null. Memory that is only read may overlap with other such memory, `out` and `made` with none. A
- * refusal writes nothing to `out`; bytes of `out` past those that are written stay as they came.
+ * the number of the refusal (document 01, "Turned down, in checking order", and document 02). No call has a precondition but
+ * C's own: a pointer and the length after it are memory that may be read, or for `out` and `counts` written, and `made` may be
+ * written; where a length is 0 the pointer must still not be null. Memory that is only read may overlap with other such memory,
+ * `out`, `counts` and `made` with none. A refusal writes nothing to `out` or `counts`; their places past those that are written
+ * stay as they came.
  *
  * crates/capi/src/lib.rt has the contracts. tests/header holds these declarations to it by their text, outside/header.c by
  * calling each of them. */
@@ -49,6 +50,16 @@ int64_t gray_log_write(const uint8_t *radices, size_t n, size_t capacity, uint64
 
 /* The number of moves of a log. Refusals 1 2 3 4 5 11. */
 int64_t gray_log_read(const uint8_t *log, size_t len);
+
+/* Tide windows from the harbour office's file, len bytes of lines like 2031-04-07,05:12,H, each ended by a newline: for every
+ * high water with a low water after it, how many moves fit in its window, in file order at the start of counts, which has room
+ * places; the number of windows. Refusals 12 for a line that cannot be read, wherever it stands, then 13 for times that do not
+ * rise or letters that do not alternate, then 9 if room is below the number of windows. */
+int64_t gray_tide_counts(const uint8_t *file, size_t len, uint32_t *counts, size_t room);
+
+/* Whether a move may begin at a minute, counted from 2000-01-01 00:00: 1 if it has its four minutes in a window of the file,
+ * 0 if not. Refusals 12 13. */
+int64_t gray_tide_may_begin(const uint8_t *file, size_t len, uint64_t minute);
 
 #ifdef __cplusplus
 }

@@ -30,6 +30,8 @@ mod c {
         pub fn gray_towers(radices: *const u8, n: usize, t: u64, out: *mut u8, len: usize, made: *mut u64) -> i64;
         pub fn gray_log_write(radices: *const u8, n: usize, capacity: usize, moves: u64, out: *mut u8, len: usize) -> i64;
         pub fn gray_log_read(log: *const u8, len: usize) -> i64;
+        pub fn gray_tide_counts(file: *const u8, len: usize, counts: *mut u32, room: usize) -> i64;
+        pub fn gray_tide_may_begin(file: *const u8, len: usize, minute: u64) -> i64;
     }
 }
 
@@ -131,4 +133,20 @@ pub fn log_write(radices: &[u8], capacity: usize, moves: u64, out: &mut [u8]) ->
 #[inline]
 pub fn log_read(log: &[u8]) -> Answer {
     answer(unsafe { c::gray_log_read(log.as_ptr(), log.len()) })
+}
+
+/// How many moves fit in each window of a file of tides, at the start of `counts`; the number of windows.
+#[inline]
+pub fn tide_counts(file: &[u8], counts: &mut [u32]) -> Answer {
+    answer(unsafe { c::gray_tide_counts(file.as_ptr(), file.len(), counts.as_mut_ptr(), counts.len()) })
+}
+
+/// Whether a move may begin at a minute, by a file of tides.
+#[inline]
+pub fn tide_may_begin(file: &[u8], minute: u64) -> Result<bool, u8> {
+    match answer(unsafe { c::gray_tide_may_begin(file.as_ptr(), file.len(), minute) })? {
+        0 => Ok(false),
+        1 => Ok(true),
+        x => panic!("no minute has the value {x}"),
+    }
 }

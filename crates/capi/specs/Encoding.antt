@@ -2,6 +2,7 @@
 -- int64_t.
 use Prim.Native.Nat.{ℕ, _-_, _^_, _%_}
 use mathlib.Core.Path.{_≡_}
+use mathlib.Core.Bool.{Bool, true, false}
 use mathlib.Core.List.{List}
 use lib.ListN.{length}
 use Rattle.gray_theory.specs.Answers.{Answer, given, refused, byteCount, outputAfter}
@@ -11,6 +12,12 @@ use Rattle.runs_theory.specs.MoveCalls.{Moves}
 abbrev pub encoded : Answer ℕ → ℕ
 encoded (given value) = value
 encoded (refused k) = (2 ^ 64 - k) % 2 ^ 64
+
+-- yes or no, as 1 or 0
+abbrev pub asNumber : Answer Bool → Answer ℕ
+asNumber (given true) = given 1
+asNumber (given false) = given 0
+asNumber (refused k) = refused k
 
 -- what a writer owes its caller: the number of its bytes or the refusal, encoded; its bytes, and nothing else, in the output
 pub record Sent (call : ℕ → Answer (List ℕ)) (result : ℕ) (before after : List ℕ) : Type 0 where

@@ -1,10 +1,12 @@
-// The calls for C and Rust: numbers and byte slices only, each result one number of 64 bits. Each function is thin: it calls
+// The calls for C and Rust: numbers and slices of numbers only, each result one number of 64 bits. Each function is thin: it calls
 // the library and encodes the answer. outside/include/gray.h declares them.
 use gray::Counted;
 use gray::Ranked;
 use gray::Running;
 use gray::Written;
 use movelog::Reading;
+use tides::Beginning;
+use tides::Counting;
 ghost use mathlib.Core.Path.{_≡_};
 ghost use Rattle.gray_theory.specs.Answers.{refused};
 ghost use Rattle.gray_theory.specs.Calls.{sizeCall, rankCall, wordCall};
@@ -13,7 +15,9 @@ ghost use Rattle.lister_theory.specs.Calls.{listCall};
 ghost use Rattle.movelog_theory.specs.Calls.{writeCall, readCall};
 ghost use Rattle.movelog.specs.Enums.{readingAs};
 ghost use Rattle.runs_theory.specs.MoveCalls.{walkMovesCall, resumedMovesCall, diskMovesCall};
-ghost use Rattle.capi.specs.Encoding.{encoded, Sent, runCode, movesMade, Ran};
+ghost use Rattle.tides_theory.specs.Calls.{countsCall, mayBeginCall};
+ghost use Rattle.tides.specs.Enums.{countingAs, beginningAs};
+ghost use Rattle.capi.specs.Encoding.{encoded, asNumber, Sent, runCode, movesMade, Ran};
 
 // Minus a refusal's number, as C has it in 64 bits.
 fn minus(k: u8) -> u64
@@ -58,6 +62,25 @@ fn of_reading(reading: Reading) -> u64
     match reading {
         Reading::Moves(t) => t,
         Reading::Refused(k) => minus(k),
+    }
+}
+
+fn of_counting(counting: Counting) -> u64
+    ensures { λ r. ⌜ r ≡ encoded (countingAs counting) ⌝ }
+{
+    match counting {
+        Counting::Windows(n) => n as u64,
+        Counting::Refused(k) => minus(k),
+    }
+}
+
+fn of_beginning(beginning: Beginning) -> u64
+    ensures { λ r. ⌜ r ≡ encoded (asNumber (beginningAs beginning)) ⌝ }
+{
+    match beginning {
+        Beginning::Yes => 1,
+        Beginning::No => 0,
+        Beginning::Refused(k) => minus(k),
     }
 }
 
@@ -175,4 +198,20 @@ pub extern "C" fn gray_towers(radices: &[u8], t: u64, out: &mut [u8], made: &mut
     let played = runs::disk_moves(radices, t, out);
     *made = moves_of(played);
     of_running(played)
+}
+
+// How many moves fit in each tide window of a harbour file; the number of windows.
+#[no_mangle]
+pub extern "C" fn gray_tide_counts(file: &[u8], counts: &mut [u32]) -> u64
+    ensures { λ r. ⌜ Sent (countsCall (now (file .entry))) r (now (counts .entry)) (now (counts .exit)) ⌝ }
+{
+    of_counting(tides::counts(file, counts))
+}
+
+// Whether a move may begin at a minute, counted from 2000-01-01 00:00: 1 or 0.
+#[no_mangle]
+pub extern "C" fn gray_tide_may_begin(file: &[u8], minute: u64) -> u64
+    ensures { λ r. ⌜ r ≡ encoded (asNumber (mayBeginCall (now (file .entry)) minute)) ⌝ }
+{
+    of_beginning(tides::may_begin(file, minute))
 }

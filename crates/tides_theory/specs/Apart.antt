@@ -2,21 +2,14 @@
 use Prim.Native.Nat.{ℕ, zero, suc, _+_, _≤_, _<_}
 use native.Mathlib.Omega.{arith}
 use native.Mathlib.Decide.{decLt}
-use mathlib.Core.Path.{_≡_, refl}
-use mathlib.Core.Bool.{Bool, true, false, cond, _&&_, _||_, not, Bool·beq, and-eq-true-iff}
+use mathlib.Core.Path.{_≡_}
+use mathlib.Core.Bool.{Bool, true, false, cond, _&&_, not, Bool·beq, and-eq-true-iff}
 use mathlib.Core.List.{List, [], _∷_}
 use borrow.Author.Tests.{ltb-true}
 use lib.Dec.{ltb}
-use lib.ListN.{length, getD}
-use Rattle.tides_theory.specs.Windows.{Tide, follows, inOrder, Window, windowOf, windows, allows}
-use Rattle.tides_theory.specs.MostMoves.{Inside, inside}
-
--- what stands for a window that is not there
-abbrev pub noWindow : Window
-noWindow = record { from = 0; to = 0 }
-
-abbrev pub windowAt : List Window → ℕ → Window
-windowAt ws i = getD ws i noWindow
+use lib.ListN.{length}
+use Rattle.tides_theory.specs.Windows.{Tide, follows, inOrder, Window, windowOf, windows, windowAt, Behind, allows}
+use Rattle.tides_theory.specs.MostMoves.{inside}
 
 -- a tide in order: it comes before the next, and what follows is in order
 pub record Ordered (a b : Tide) (tides : List Tide) : Type 0 where
@@ -29,11 +22,6 @@ ordered a b tides e =
     let (f, others) = and-eq-true-iff (follows a b) (inOrder (b ∷ tides)) .0 e in
     let (rises, letters) = and-eq-true-iff (ltb (a .at) (b .at)) (not (Bool·beq (a .high) (b .high))) .0 f in
     record { rises = ltb-true (a .at) (b .at) rises; others = others }
-
--- a window behind another
-pub record Behind (w v : Window) : Type 0 where
-  pub begins : w .from < v .from
-  pub apart : w .to < v .from
 
 -- the windows of tides from a on
 pub record AllFrom (m : ℕ) (ws : List Window) : Type 0 where

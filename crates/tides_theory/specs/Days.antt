@@ -33,7 +33,7 @@ month-has-days : (year month : ℕ) → 1 ≤ daysInMonth year month
 unfolding daysInMonth
 month-has-days year month = length-pos (eqb month 2) (isLeap year) (hasThirtyDays month)
 
--- the days up to a month's end, and up to a year's
+-- ---- the days up to a month's end, and up to a year's
 pub month-added : (year month : ℕ) → 1 ≤ month → daysOfMonths year month ≡ daysOfMonths year (month - 1) + daysInMonth year month
 unfolding daysOfMonths
 month-added year zero h = absurd (omega arith)

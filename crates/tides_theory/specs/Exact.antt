@@ -13,20 +13,20 @@ use Rattle.gray_theory.specs.Bools.{impossible}
 use Rattle.text_theory.specs.Ascii.{ascii}
 use Rattle.text_theory.specs.Decimals.{isDigit, allDigits, value}
 use Rattle.tides_theory.specs.Calendar.{exists, isLeap, hasThirtyDays, daysInMonth}
-use Rattle.tides_theory.specs.Lines.{highLetter, lowLetter, form, fitsPlace, hasForm, isLine, linesIn, allLines}
+use Rattle.tides_theory.specs.Lines.{highLetter, lowLetter, form, fitsPlace, hasForm, isLine, linesIn, allLines, fileOf, allInRange, ReadAs, FileReadAs, IsFileOf}
 use Rattle.tides_theory.specs.Lines.{Notice, inRange, noticeIn, noticesIn, digitsOf, lineOf}
-use Rattle.tides_theory.specs.Fields.{glyph-is-digit, written-is-read, read-is-written}
+use Rattle.tides_theory.specs.FieldDigits.{glyph-is-digit, digits-read-back, digits-written-back}
 use Rattle.tides_theory.specs.Chunks.{line-formed, line-length, line-in-front, lines-make-the-file}
 
 -- ---- fields of two digits, and of four
 two-digits : (a b : ℕ) → isDigit a ≡ true → isDigit b ≡ true → digitsOf 2 (value (a ∷ b ∷ [])) ≡ a ∷ b ∷ []
 unfolding allDigits
-two-digits a b e f = read-is-written (a ∷ b ∷ []) (rw (e, f) refl)
+two-digits a b e f = digits-written-back (a ∷ b ∷ []) (rw (e, f) refl)
 
 four-digits : (a b c d : ℕ) → isDigit a ≡ true → isDigit b ≡ true → isDigit c ≡ true → isDigit d ≡ true
     → digitsOf 4 (value (a ∷ b ∷ c ∷ d ∷ [])) ≡ a ∷ b ∷ c ∷ d ∷ []
 unfolding allDigits
-four-digits a b c d e f g h = read-is-written (a ∷ b ∷ c ∷ d ∷ []) (rw (e, f, g, h) refl)
+four-digits a b c d e f g h = digits-written-back (a ∷ b ∷ c ∷ d ∷ []) (rw (e, f, g, h) refl)
 
 -- ---- the letter: it is written for what was read from it, what it was written for is read from it, and it fits its place
 letter-written : (high low : Bool) (b : ℕ) → eqb b highLetter ≡ high → eqb b lowLetter ≡ low → (high || low) ≡ true
@@ -106,21 +106,17 @@ line-says : (n : Notice) → Fits n → noticeIn (lineOf n) ≡ n
 unfolding noticeIn lineOf digitsOf
 line-says n f = λ i. record {
   date = record {
-    year = written-is-read 4 (n .date .year) (f .year) i;
-    month = written-is-read 2 (n .date .month) (f .month) i;
-    day = written-is-read 2 (n .date .day) (f .day) i;
+    year = digits-read-back 4 (n .date .year) (f .year) i;
+    month = digits-read-back 2 (n .date .month) (f .month) i;
+    day = digits-read-back 2 (n .date .day) (f .day) i;
   };
-  hour = written-is-read 2 (n .hour) (f .hour) i;
-  minute = written-is-read 2 (n .minute) (f .minute) i;
+  hour = digits-read-back 2 (n .hour) (f .hour) i;
+  minute = digits-read-back 2 (n .minute) (f .minute) i;
   high = letter-read (n .high) i;
 }
 
 -- ---- lines
 -- Every date, time and letter in range has a line, which is read as them.
-pub record ReadAs (line : List ℕ) (n : Notice) : Type 0 where
-  pub read : isLine line ≡ true
-  pub says : noticeIn line ≡ n
-
 pub notices-have-lines : (n : Notice) → inRange n ≡ true → ReadAs (lineOf n) n
 unfolding isLine
 notices-have-lines n e =
@@ -160,14 +156,6 @@ different-lines-say-different-things a b e f same =
     lines-are-their-notices a e ∙ ap lineOf same ∙ sym (lines-are-their-notices b f)
 
 -- ---- files
--- the file of some notices, and whether all of them are in range
-abbrev pub fileOf : List Notice → List ℕ
-fileOf ns = flatten (map lineOf ns)
-
-unfoldable pub allInRange : List Notice → Bool
-allInRange [] = true
-allInRange (n ∷ ns) = inRange n && allInRange ns
-
 -- a line in front of a file is its first line
 line-then-file : (line file : List ℕ) → isLine line ≡ true → linesIn (line ++ file) ≡ line ∷ linesIn file
 line-then-file line file e =
@@ -176,11 +164,7 @@ line-then-file line file e =
     let rest = drop-at line file 19 long in
     line-in-front (line ++ file) (ap isLine front ∙ e) ∙ ap₂ (λ l m. l ∷ linesIn m) front rest
 
--- Notices in range have a file that is read as them,
-pub record FileReadAs (file : List ℕ) (ns : List Notice) : Type 0 where
-  pub read : allLines (linesIn file) ≡ true
-  pub says : noticesIn file ≡ ns
-
+-- Notices in range have a file that is read as them.
 pub notices-have-a-file : (ns : List Notice) → allInRange ns ≡ true → FileReadAs (fileOf ns) ns
 unfolding allInRange linesIn allLines flatten
 notices-have-a-file [] e = record { read = refl; says = refl }
@@ -194,11 +178,6 @@ notices-have-a-file (n ∷ ns) e =
       says = ap (map noticeIn) lines ∙ ap₂ (λ m ms. m ∷ ms) (line .says) (file .says);
     }
 
--- and a file that is read is the file of what it says, which is in range.
-pub record IsFileOf (file : List ℕ) (ns : List Notice) : Type 0 where
-  pub ranged : allInRange ns ≡ true
-  pub bytes : file ≡ fileOf ns
-
 lines-make-a-file : (lines : List (List ℕ)) → allLines lines ≡ true → IsFileOf (flatten lines) (map noticeIn lines)
 unfolding allInRange allLines flatten
 lines-make-a-file [] e = record { ranged = refl; bytes = refl }
@@ -210,6 +189,7 @@ lines-make-a-file (line ∷ lines) e =
       bytes = ap₂ (λ a b. a ++ b) (lines-are-their-notices line first) (file .bytes);
     }
 
+-- A file that is read is the file of what it says, which is in range.
 pub files-are-their-notices : (file : List ℕ) → allLines (linesIn file) ≡ true → IsFileOf file (noticesIn file)
 files-are-their-notices file e =
     subst (λ (f : List ℕ). IsFileOf f (noticesIn file)) (lines-make-the-file file) (lines-make-a-file (linesIn file) e)

@@ -1,8 +1,9 @@
 -- The harbour file (document 02, request 1): lines of exactly the form `2031-04-07,05:12,H`, each ended by a newline. A date
 -- from 2000 to 2099, the minute of the day in UTC, H or L for high or low water.
 use Prim.Native.Nat.{ℕ, zero, suc, _/_, _%_, _^_}
+use mathlib.Core.Path.{_≡_}
 use mathlib.Core.Bool.{Bool, true, false, cond, _&&_, _||_}
-use mathlib.Core.List.{List, [], _∷_, _++_, map}
+use mathlib.Core.List.{List, [], _∷_, _++_, map, flatten}
 use lib.Dec.{eqb, leb}
 use lib.ListN.{getD, take, drop}
 use Rattle.text_theory.specs.Ascii.{ascii}
@@ -83,3 +84,26 @@ lineOf n =
     digitsOf 4 (n .date .year) ++ ascii "-" ++ digitsOf 2 (n .date .month) ++ ascii "-" ++ digitsOf 2 (n .date .day)
     ++ ascii "," ++ digitsOf 2 (n .hour) ++ ascii ":" ++ digitsOf 2 (n .minute)
     ++ ascii "," ++ cond (n .high) (ascii "H") (ascii "L") ++ ascii "\n"
+
+-- the file of some notices: their lines, one after another
+abbrev pub fileOf : List Notice → List ℕ
+fileOf ns = flatten (map lineOf ns)
+
+unfoldable pub allInRange : List Notice → Bool
+allInRange [] = true
+allInRange (n ∷ ns) = inRange n && allInRange ns
+
+-- ---- what reading promises
+-- a line that is read as a notice
+pub record ReadAs (line : List ℕ) (n : Notice) : Type 0 where
+  pub read : isLine line ≡ true
+  pub says : noticeIn line ≡ n
+
+-- a file that is read as notices, and one that is the file of notices, all of which are in range
+pub record FileReadAs (file : List ℕ) (ns : List Notice) : Type 0 where
+  pub read : allLines (linesIn file) ≡ true
+  pub says : noticesIn file ≡ ns
+
+pub record IsFileOf (file : List ℕ) (ns : List Notice) : Type 0 where
+  pub ranged : allInRange ns ≡ true
+  pub bytes : file ≡ fileOf ns

@@ -3,17 +3,18 @@
 use Prim.Native.Nat.{ℕ, zero, suc, _+_, _-_, _*_, _≤_, _<_}
 use native.Mathlib.Omega.{arith}
 use native.Mathlib.Decide.{decLe}
-use mathlib.Core.Path.{_≡_, refl, ap, ap₂, _∙_}
+use mathlib.Core.Path.{_≡_, refl, ap, ap₂}
 use mathlib.Core.Bool.{Bool, true, false, _&&_, _||_, and-eq-true-iff}
 use mathlib.Core.List.{List, [], _∷_}
 use borrow.Author.Tests.{le-leb, leb-true}
 use lib.Dec.{leb}
 use lib.ListN.{length}
 use Rattle.gray_theory.specs.Bools.{impossible}
-use Rattle.tides_theory.specs.Windows.{Window, moveTime, allows, movesIn}
+use Rattle.tides_theory.specs.Windows.{Window, moveTime, allows, movesThatFit}
 use Rattle.tides_theory.specs.Fitting.{apart, clearOf, fitIn, oneAfterTheOther}
 
 -- ---- so many fit
+-- k moves one after the other are k moves.
 pub so-many : (s k : ℕ) → length (oneAfterTheOther s k) ≡ k
 unfolding oneAfterTheOther
 so-many s zero = refl
@@ -36,8 +37,8 @@ fit-from w s (suc k) h room =
     ap₂ _&&_ (ap₂ _&&_ (ap₂ _&&_ begins ends) clear) others
 
 -- As many moves as a window counts fit in it, one after the other from its start.
-pub as-many-moves-fit : (w : Window) → fitIn w (oneAfterTheOther (w .from) (movesIn w)) ≡ true
-as-many-moves-fit w = fit-from w (w .from) (movesIn w) (omega arith) (omega arith)
+pub as-many-moves-fit : (w : Window) → fitIn w (oneAfterTheOther (w .from) (movesThatFit w)) ≡ true
+as-many-moves-fit w = fit-from w (w .from) (movesThatFit w) (omega arith) (omega arith)
 
 -- ---- no more fit
 -- a move that fits in a window, by its minutes
@@ -144,5 +145,5 @@ fewer (suc k) w ss short e =
     omega arith
 
 -- Moves that fit in a window and do not overlap, wherever they begin and in whatever order, are no more than it counts.
-pub no-more-moves-fit : (w : Window) (begins : List ℕ) → fitIn w begins ≡ true → length begins ≤ movesIn w
-no-more-moves-fit w begins e = fewer (movesIn w) w begins (omega arith) e
+pub no-more-moves-fit : (w : Window) (begins : List ℕ) → fitIn w begins ≡ true → length begins ≤ movesThatFit w
+no-more-moves-fit w begins e = fewer (movesThatFit w) w begins (omega arith) e

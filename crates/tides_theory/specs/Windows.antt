@@ -1,9 +1,10 @@
 -- When sluices may move (document 02, request 1): from 60 minutes after a high water up to, but not including, the following low
 -- water. Each move takes 4 minutes and must finish by the window's end.
-use Prim.Native.Nat.{ℕ, _+_, _-_, _/_}
+use Prim.Native.Nat.{ℕ, _+_, _-_, _/_, _<_}
 use mathlib.Core.Bool.{Bool, true, false, cond, _&&_, _||_, not, Bool·beq}
 use mathlib.Core.List.{List, [], _∷_}
 use lib.Dec.{leb, ltb}
+use lib.ListN.{getD}
 use Rattle.tides_theory.specs.Calendar.{minuteOf}
 use Rattle.tides_theory.specs.Lines.{Notice}
 
@@ -39,6 +40,18 @@ windows [] = []
 windows (a ∷ []) = []
 windows (a ∷ b ∷ tides) = cond (a .high && not (b .high)) (windowOf a b ∷ windows (b ∷ tides)) (windows (b ∷ tides))
 
+-- the windows by their place, from 0; an empty one stands for one that is not there
+abbrev pub noWindow : Window
+noWindow = record { from = 0; to = 0 }
+
+abbrev pub windowAt : List Window → ℕ → Window
+windowAt ws i = getD ws i noWindow
+
+-- a window that stands behind another: it begins later than that, and than that ends
+pub record Behind (w v : Window) : Type 0 where
+  pub begins : w .from < v .from
+  pub apart : w .to < v .from
+
 -- the minutes that a move takes
 abbrev pub moveTime : ℕ
 moveTime = 4
@@ -52,5 +65,5 @@ anyAllows [] s = false
 anyAllows (w ∷ ws) s = allows w s || anyAllows ws s
 
 -- how many moves fit in a window, one after the other
-abbrev pub movesIn : Window → ℕ
-movesIn w = (w .to - w .from) / moveTime
+abbrev pub movesThatFit : Window → ℕ
+movesThatFit w = (w .to - w .from) / moveTime

@@ -12,11 +12,15 @@
 //! - plain Rust: does the same as ours, with the same tests and the same engine.
 //!
 //! Of each form of Algorithm H there are two programs, by cc and by clang, and in each row the better one counts.
+//!
+//! Of tides there are several plain programs, and each row names its own: lines are read byte by byte, in the ordinary way, or
+//! on words of eight bytes; counts are gathered in memory of its own and copied out, or written in a second pass.
 use outside::capi::{self, Answer};
 use outside::chance::Chance;
 use outside::plain::algorithm_h::{AlgorithmH, Form, LITERAL, TUNED};
-use outside::plain::{disks, list, log, walk, words};
+use outside::plain::{disks, list, log, tides, walk, words};
 use outside::run::Run;
+use outside::second::tides::{line, minutes_of_century, Tide, Water};
 use std::hint::black_box;
 use std::process::{Command, ExitCode};
 use std::time::Duration;
@@ -33,6 +37,8 @@ const LOGGED: u64 = 524_000;
 const SHORT: [u64; 7] = [1, 2, 4, 16, 64, 256, 1024];
 /// Calls of a batch of short runs.
 const SHORT_CALLS: usize = 64;
+/// Bytes of a line of tides.
+const LINE: usize = 19;
 
 /// Twenty counts from 2 to 12, and twenty odd ones for the disk engine.
 const MIXED: [u8; 20] = [7, 2, 12, 5, 3, 9, 2, 10, 4, 6, 8, 3, 11, 5, 4, 7, 6, 10, 9, 8];
@@ -140,6 +146,10 @@ const NS_A_CALL: Unit = Unit {
 };
 const NS_A_MOVE: Unit = Unit {
     name: "ns a move",
+    show: |ns| format!("{ns:.2}"),
+};
+const NS_A_LINE: Unit = Unit {
+    name: "ns a line",
     show: |ns| format!("{ns:.2}"),
 };
 const BYTES: Unit = Unit {
@@ -262,12 +272,12 @@ fn ratio(ours: &[f64], plain: &[f64]) -> String {
     format!("{:.2} ({least:.2} to {greatest:.2})", ratios[ratios.len() / 2])
 }
 
-/// The head of a table: a column for each side and one for each ratio.
-fn head(title: &str, unit: &Unit, others: &[&str]) {
+/// The head of a table: a column for what its rows are of, for each side and for each ratio.
+fn head(title: &str, rows: &str, unit: &Unit, others: &[&str]) {
     let sides = others.iter().map(|other| format!("{other}, {}", unit.name));
     let ratios = others.iter().map(|other| format!("ours / {other}"));
     let columns: Vec<String> = sides.chain(ratios).collect();
-    println!("\n### {title}\n\n| radices | ours, {} | {} |", unit.name, columns.join(" | "));
+    println!("\n### {title}\n\n| {rows} | ours, {} | {} |", unit.name, columns.join(" | "));
     println!("|---|---|{}", "---|".repeat(columns.len()));
 }
 
@@ -517,6 +527,71 @@ fn disk_row(bench: &Bench, survey: &Survey) {
     bench.row(survey, &NS_A_MOVE, moves, &mut [&mut ours, &mut plain]);
 }
 
+/// A century of tides as at sea: a high water every 745 minutes or so, a low water in between.
+fn century() -> Vec<u8> {
+    let mut chance = Chance::new(745);
+    let mut file = vec![];
+    let mut water = Water::High;
+    for half in 0.. {
+        let minute = 745 * half / 2 + chance.below(41);
+        if minute >= minutes_of_century() {
+            break;
+        }
+        file.extend(line(Tide { minute, water }).into_bytes());
+        water = if water == Water::High { Water::Low } else { Water::High };
+    }
+    file
+}
+
+/// The same with its first two lines in each other's place.
+fn out_of_order(mut file: Vec<u8>) -> Vec<u8> {
+    file[..2 * LINE].rotate_left(LINE);
+    file
+}
+
+/// A row of one way to count, into just enough room.
+fn tide_counts_row(bench: &Bench, name: &str, file: &[u8], plain: fn(&[u8], &mut [u32]) -> Answer) {
+    let (file, lines) = (black_box(file), file.len() / LINE);
+    let (mut a, mut b) = (vec![0xaaaa_aaaa; lines / 2], vec![0xaaaa_aaaa; lines / 2]);
+    let answers = (capi::tide_counts(file, &mut a), plain(file, &mut b));
+    assert!(answers.0 == answers.1 && a == b, "the sides differ: {answers:?}");
+    let ours = &mut || _ = black_box(capi::tide_counts(file, black_box(&mut a)));
+    let plain = &mut || _ = black_box(plain(file, black_box(&mut b)));
+    print_row(name, &NS_A_LINE, &bench.rounds(lines as u64, &mut [ours, plain]));
+}
+
+/// A row of one way to ask for a minute, in the century's middle.
+fn tide_may_begin_row(bench: &Bench, name: &str, file: &[u8], plain: fn(&[u8], u64) -> Result<bool, u8>) {
+    let (file, minute) = (black_box(file), black_box(minutes_of_century() / 2));
+    let answers = (capi::tide_may_begin(file, minute), plain(file, minute));
+    assert!(answers.0 == answers.1, "the sides differ: {answers:?}");
+    let ours = &mut || _ = black_box(capi::tide_may_begin(file, minute));
+    let plain = &mut || _ = black_box(plain(file, minute));
+    print_row(
+        name,
+        &NS_A_LINE,
+        &bench.rounds((file.len() / LINE) as u64, &mut [ours, plain]),
+    );
+}
+
+/// The library against each plain program; then both on a file that is refused only when all lines have been read.
+fn tide_rows(bench: &Bench) {
+    let file = century();
+    let counts = |name, plain| tide_counts_row(bench, name, &file, plain);
+    counts("counts; plain: byte by byte, gathering", tides::counts);
+    counts("counts; plain: byte by byte, in two passes", tides::counts_in_two_passes);
+    counts("counts; plain: on words of eight bytes, gathering", tides::counts_on_words);
+    let may_begin = |name, plain| tide_may_begin_row(bench, name, &file, plain);
+    may_begin("may_begin; plain: byte by byte", tides::may_begin);
+    may_begin("may_begin; plain: on words of eight bytes", tides::may_begin_on_words);
+    // The first of two passes refuses it, and gathers nothing in vain.
+    let refused = out_of_order(file.clone());
+    let name = "counts, refused with 13 at line 2; plain: byte by byte, in two passes";
+    tide_counts_row(bench, name, &refused, tides::counts_in_two_passes);
+    let name = "may_begin, refused with 13 at line 2; plain: byte by byte";
+    tide_may_begin_row(bench, name, &refused, tides::may_begin);
+}
+
 /// What a compiler says of itself first.
 fn version(compiler: &str) -> String {
     let output = Command::new(compiler).arg("--version").output();
@@ -542,13 +617,19 @@ fn machine() {
     );
 }
 
-/// A table: what it is called, what its sides are counted in, what ours is held to, and the rows of each of its surveys.
+/// A table: what it is called, what its sides are counted in, what ours is held to, and its rows.
 struct Table {
     name: &'static str,
     unit: Unit,
     others: &'static [&'static str],
-    surveys: fn() -> Vec<Survey>,
-    rows: fn(&Bench, &Survey),
+    rows: Rows,
+}
+
+enum Rows {
+    /// Of each of these surveys.
+    OfSurveys(fn() -> Vec<Survey>, fn(&Bench, &Survey)),
+    /// Of calls on files of tides.
+    OfTides(fn(&Bench)),
 }
 
 const PLAIN: &[&str] = &["plain Rust"];
@@ -556,83 +637,88 @@ const PLAIN: &[&str] = &["plain Rust"];
 const RUNS: &[&str] = &["Algorithm H", "tuned Algorithm H", "plain Rust"];
 const SHORT_ONES: &[&str] = &["Algorithm H", "plain Rust"];
 
-const TABLES: [Table; 10] = [
+const TABLES: [Table; 11] = [
     Table {
         name: "size",
         unit: NS_A_CALL,
         others: PLAIN,
-        surveys: all_surveys,
-        rows: size_row,
+        rows: Rows::OfSurveys(all_surveys, size_row),
     },
     Table {
         name: "rank",
         unit: NS_A_CALL,
         others: PLAIN,
-        surveys: all_surveys,
-        rows: rank_row,
+        rows: Rows::OfSurveys(all_surveys, rank_row),
     },
     Table {
         name: "word",
         unit: NS_A_CALL,
         others: PLAIN,
-        surveys: all_surveys,
-        rows: word_row,
+        rows: Rows::OfSurveys(all_surveys, word_row),
     },
     Table {
         name: "list",
         unit: BYTES,
         others: PLAIN,
-        surveys: all_surveys,
-        rows: list_row,
+        rows: Rows::OfSurveys(all_surveys, list_row),
     },
     Table {
         name: "log_write",
         unit: MOVES,
         others: PLAIN,
-        surveys: all_surveys,
-        rows: log_write_row,
+        rows: Rows::OfSurveys(all_surveys, log_write_row),
     },
     Table {
         name: "log_read",
         unit: MOVES,
         others: PLAIN,
-        surveys: all_surveys,
-        rows: log_read_row,
+        rows: Rows::OfSurveys(all_surveys, log_read_row),
     },
     Table {
         name: "moves",
         unit: NS_A_MOVE,
         others: RUNS,
-        surveys: buffered_surveys,
-        rows: walk_row,
+        rows: Rows::OfSurveys(buffered_surveys, walk_row),
     },
     Table {
         name: "short",
         unit: NS_A_CALL,
         others: SHORT_ONES,
-        surveys: two_surveys,
-        rows: short_rows,
+        rows: Rows::OfSurveys(two_surveys, short_rows),
     },
     Table {
         name: "resume",
         unit: NS_A_CALL,
         others: PLAIN,
-        surveys: resumed_surveys,
-        rows: resumed_row,
+        rows: Rows::OfSurveys(resumed_surveys, resumed_row),
     },
     Table {
         name: "towers",
         unit: NS_A_MOVE,
         others: PLAIN,
-        surveys: disk_surveys,
-        rows: disk_row,
+        rows: Rows::OfSurveys(disk_surveys, disk_row),
+    },
+    Table {
+        name: "tides",
+        unit: NS_A_LINE,
+        others: PLAIN,
+        rows: Rows::OfTides(tide_rows),
     },
 ];
 
 impl Table {
     fn print(&self, bench: &Bench) {
-        head(self.name, &self.unit, self.others);
-        (self.surveys)().iter().for_each(|survey| (self.rows)(bench, survey));
+        let head = |rows| head(self.name, rows, &self.unit, self.others);
+        match self.rows {
+            Rows::OfSurveys(surveys, rows) => {
+                head("radices");
+                surveys().iter().for_each(|survey| rows(bench, survey));
+            }
+            Rows::OfTides(rows) => {
+                head("call");
+                rows(bench);
+            }
+        }
     }
 }
 

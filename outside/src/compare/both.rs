@@ -1,16 +1,17 @@
 //! Each call made on both sides, and the library's answer handed back.
 //!
 //! Lent memory stands between guards and comes filled. After the call all of it must be as the second program says: guards, the
-//! bytes past an accepted output and each byte after a refusal as they came.
+//! places past an accepted output and each place after a refusal as they came.
 use super::Group;
 use crate::capi::{self, Answer};
 use crate::run::Run;
 use crate::second::run::Ran;
-use crate::second::{buffered, disks, log, survey};
-use std::fmt::Debug;
+use crate::second::{buffered, disks, log, survey, tides};
+use std::fmt::{Debug, Display};
 
-/// Bytes that a writer of the second program hands back, or the refusal.
-type Bytes<'a> = Result<&'a [u8], u8>;
+/// What a writer of the second program hands back, or the refusal.
+type Written<'a, P> = Result<&'a [P], u8>;
+type Bytes<'a> = Written<'a, u8>;
 
 /// The proved library's answer, for those who know it from another source too.
 pub struct Library<A = Answer>(A);
@@ -24,48 +25,63 @@ impl<A: PartialEq + Debug> Library<A> {
 
 const GUARD: usize = 16;
 
-/// What lent memory holds at first: another pattern for each salt, so that a byte written by mistake is seldom the one it had.
-fn filling(length: usize, salt: u64) -> Vec<u8> {
-    (0..length)
-        .map(|x| (x as u8).wrapping_mul(167).wrapping_add(salt as u8).rotate_left(3))
-        .collect()
+/// A place of lent memory: a byte, or a count of moves.
+trait Place: Copy + PartialEq + Display {
+    /// What place x holds at first: another pattern for each salt, so that what is written by mistake is seldom what was there.
+    fn filled(x: usize, salt: u64) -> Self;
 }
 
-/// A call with `room` bytes lent to it: its answer, and the bytes that it writes at the start of them.
-fn lend<A: PartialEq + Debug>(
+impl Place for u8 {
+    fn filled(x: usize, salt: u64) -> u8 {
+        (x as u8).wrapping_mul(167).wrapping_add(salt as u8).rotate_left(3)
+    }
+}
+
+/// Seldom a number that fits in two bytes, or in three.
+impl Place for u32 {
+    fn filled(x: usize, salt: u64) -> u32 {
+        (x as u32)
+            .wrapping_mul(0x9e37_79b9)
+            .wrapping_add(salt as u32)
+            .wrapping_mul(0x85eb_ca6b)
+    }
+}
+
+/// A call with `room` places lent to it: its answer, and what it writes at the start of them.
+fn lend<A: PartialEq + Debug, P: Place>(
     g: &mut Group,
     inputs: impl FnOnce() -> String,
     room: usize,
-    second: (A, &[u8]),
-    call: impl FnOnce(&mut [u8]) -> A,
+    second: (A, &[P]),
+    call: impl FnOnce(&mut [P]) -> A,
 ) -> Library<A> {
-    let (answer, bytes) = second;
-    let mut expected = filling(room + 2 * GUARD, g.made);
+    let ((answer, written), salt) = (second, g.made);
+    let mut expected: Vec<P> = (0..room + 2 * GUARD).map(|x| P::filled(x, salt)).collect();
     let mut memory = expected.clone();
     let library = call(&mut memory[GUARD..GUARD + room]);
-    expected[GUARD..GUARD + bytes.len()].copy_from_slice(bytes);
+    expected[GUARD..GUARD + written.len()].copy_from_slice(written);
     let wrong = (expected != memory).then(|| first_wrong(&expected, &memory));
     let library = (library, wrong);
     g.same(|| format!("{}, room {room}", inputs()), &(answer, None), &library);
     Library(library.0)
 }
 
-/// The first byte that is not as it should be, counted from the start of what was lent.
-fn first_wrong(expected: &[u8], memory: &[u8]) -> String {
+/// The first place that is not as it should be, counted from the start of what was lent.
+fn first_wrong<P: Place>(expected: &[P], memory: &[P]) -> String {
     let mut pairs = expected.iter().zip(memory);
     let x = pairs.position(|(wanted, found)| wanted != found).expect("they differ");
-    format!("byte {} is {}, not {}", x as isize - GUARD as isize, memory[x], expected[x])
+    format!("place {} is {}, not {}", x as isize - GUARD as isize, memory[x], expected[x])
 }
 
-/// A call of a writer, which answers how many bytes it has written.
-fn lend_writer(
+/// A call of a writer, which answers how many places it has written.
+fn lend_writer<P: Place>(
     g: &mut Group,
     inputs: impl FnOnce() -> String,
     room: usize,
-    second: Bytes,
-    call: impl FnOnce(&mut [u8]) -> Answer,
+    second: Written<P>,
+    call: impl FnOnce(&mut [P]) -> Answer,
 ) -> Library {
-    let answer = second.map(|bytes| bytes.len() as u64);
+    let answer = second.map(|written| written.len() as u64);
     lend(g, inputs, room, (answer, second.unwrap_or(&[])), call)
 }
 
@@ -160,4 +176,40 @@ pub fn log_read(g: &mut Group, bytes: &[u8]) -> Library {
     let library = capi::log_read(bytes);
     g.same(|| format!("reading of the log {bytes:?}"), &log::read(bytes), &library);
     Library(library)
+}
+
+/// Whether a move may begin, as either side says it.
+pub type Begins = Result<bool, u8>;
+
+/// As much of a file of tides as is worth printing.
+fn shown(file: &[u8]) -> String {
+    const MOST: usize = 400;
+    let start = file[..file.len().min(MOST)].escape_ascii();
+    format!(
+        "\"{start}\"{} ({} bytes)",
+        if file.len() > MOST { " .." } else { "" },
+        file.len()
+    )
+}
+
+/// The counts of a file of tides held to what is known.
+pub fn tide_counts_are(g: &mut Group, file: &[u8], room: usize, second: Written<u32>) -> Library {
+    let inputs = || format!("counts of {}", shown(file));
+    lend_writer(g, inputs, room, second, |counts| capi::tide_counts(file, counts))
+}
+
+pub fn tide_counts(g: &mut Group, file: &[u8], room: usize) -> Library {
+    let second = tides::counts(file, room);
+    tide_counts_are(g, file, room, second.as_deref().map_err(|&k| k))
+}
+
+/// Whether a move may begin held to what is known.
+pub fn tide_may_begin_is(g: &mut Group, file: &[u8], minute: u64, second: Begins) -> Library<Begins> {
+    let library = capi::tide_may_begin(file, minute);
+    g.same(|| format!("a move at minute {minute} by {}", shown(file)), &second, &library);
+    Library(library)
+}
+
+pub fn tide_may_begin(g: &mut Group, file: &[u8], minute: u64) -> Library<Begins> {
+    tide_may_begin_is(g, file, minute, tides::may_begin(file, minute))
 }

@@ -1,7 +1,7 @@
 //! Comparisons of the second program with the proved library, in groups.
 //!
 //! "Second" is what the second program says (or a number that document 01 or 02 names), "library" what the proved library, or a
-//! program made of it, says. Each group has surveys with locked sluices too.
+//! program made of it, says. Each group of surveys has some with locked sluices too.
 mod both;
 mod bounds;
 mod cases;
@@ -20,6 +20,7 @@ mod runs;
 mod script;
 mod small;
 mod surveys;
+pub(crate) mod tides;
 
 use crate::chance::Chance;
 use std::fmt::Debug;
@@ -51,7 +52,7 @@ impl Group {
 
 type Compare = fn(&mut Group, &mut Chance);
 
-const GROUPS: [(&str, Compare); 11] = [
+const GROUPS: [(&str, Compare); 12] = [
     ("lists of figure 1", figure::compare),
     ("small surveys", small::compare),
     ("large surveys", large::compare),
@@ -63,6 +64,7 @@ const GROUPS: [(&str, Compare); 11] = [
     ("runs of both engines' states", run_cases::compare),
     ("states of walks picked up", pickup_cases::compare),
     ("the program walk", program::compare),
+    ("tides", tides::compare),
 ];
 
 /// Runs all groups; whether none failed. A group that compared nothing fails.

@@ -11,6 +11,8 @@ pub mod disks;
 mod engine;
 pub mod list;
 pub mod log;
+mod tide_words;
+pub mod tides;
 pub mod walk;
 pub mod words;
 

@@ -1,9 +1,10 @@
-//! The plain calls answer what the library answers, refusals too. Single calls, which the library does not offer to C, and
-//! Algorithm H are held to the second program.
+//! The plain calls answer what the library answers, refusals too. Single calls, which the library does not offer to C,
+//! Algorithm H and the tides are held to the second program.
 use super::engine::Digits;
-use super::{algorithm_h, disks, list, log, walk, words, Step};
+use super::{algorithm_h, disks, list, log, tides, walk, words, Step};
 use crate::capi::{self, Answer};
 use crate::chance::Chance;
+use crate::compare::tides::{damaged, some_tides, text};
 use crate::run::Run;
 use crate::second::{self, buffered, survey};
 use std::fmt::Debug;
@@ -448,4 +449,94 @@ fn states_have_sizes() {
     assert!(refused(&[2; 40], 0, changed_to(3)));
     assert!(refused(&[2; 48], 0, changed_to(3)));
     assert!(refused(&[2; 32], 0, changed_to(4)));
+}
+
+/// Every way to count, on places that held the same, and to ask for a minute: lines read byte by byte, and on words.
+fn tides_alike(file: &[u8], room: usize, minute: u64) {
+    let mut expected = vec![0xaaaa_aaaa; room];
+    let answer = second::tides::counts(file, room).map(|counts| {
+        expected[..counts.len()].copy_from_slice(&counts);
+        counts.len() as u64
+    });
+    for counts in [tides::counts, tides::counts_in_two_passes, tides::counts_on_words] {
+        let mut out = vec![0xaaaa_aaaa; room];
+        assert_eq!(
+            (counts(file, &mut out), out),
+            (answer, expected.clone()),
+            "{}",
+            file.escape_ascii()
+        );
+    }
+    let begins = second::tides::may_begin(file, minute);
+    for may_begin in [tides::may_begin, tides::may_begin_on_words] {
+        assert_eq!(may_begin(file, minute), begins, "{}, at {minute}", file.escape_ascii());
+    }
+}
+
+/// Good files and faulty ones, at minutes near the end of a window and past all.
+#[test]
+fn tides_are_alike() {
+    let mut chance = Chance::new(11);
+    for _ in 0..20_000 {
+        let mut file = text(&some_tides(&mut chance, 20));
+        if chance.once_in(2) {
+            file = damaged(&mut chance, file);
+        }
+        let windows = second::tides::windows(&file).unwrap_or_default();
+        let room = (windows.len() + chance.between(0, 2)).saturating_sub(1);
+        let far = chance.pick(&[0, 60, 1 << 32, u64::MAX - 4, u64::MAX - 3, u64::MAX]);
+        tides_alike(&file, room, far);
+        for window in windows {
+            let minute = chance.pick(&[
+                window.from,
+                window.from - 1,
+                window.to.saturating_sub(4),
+                window.to - 1,
+                window.to,
+            ]);
+            tides_alike(&file, room, minute + chance.pick(&[0, 0, 0, 1, 1 << 32]));
+        }
+    }
+}
+
+/// Each date of the century, and each text like one that is none.
+#[test]
+fn dates_are_alike() {
+    let mut minute = 60;
+    for year in 1999..=2100 {
+        for (month, day) in (0..=13).flat_map(|month| (0..=32).map(move |day| (month, day))) {
+            let file = format!("{year}-{month:02}-{day:02},00:00,H\n{year}-{month:02}-{day:02},01:04,L\n");
+            tides_alike(file.as_bytes(), 1, minute);
+            minute += if tides::may_begin(file.as_bytes(), minute) == Ok(true) {
+                1440
+            } else {
+                0
+            };
+        }
+    }
+    assert_eq!(minute, 60 + 36_525 * 1440);
+}
+
+/// Each minute of a day, and each text like one that is none.
+#[test]
+fn times_are_alike() {
+    for (hour, minute) in (0..100).flat_map(|hour| (0..100).map(move |minute| (hour, minute))) {
+        let file = format!("2031-04-07,{hour:02}:{minute:02},H\n2031-04-09,00:00,L\n");
+        tides_alike(file.as_bytes(), 1, 16_443_420 + 60 * hour + minute);
+    }
+}
+
+/// Each byte of a line changed to each other value.
+#[test]
+fn lines_are_alike() {
+    let good = b"2031-04-07,05:12,H\n2031-04-07,11:12,L\n2031-04-07,17:30,H\n";
+    for place in 0..good.len() {
+        let mut file = *good;
+        for value in 0..=255 {
+            file[place] = value;
+            tides_alike(&file, 1, 16_443_732);
+        }
+        tides_alike(&good[..place], 1, 16_443_732);
+        tides_alike(&good[place..], 1, 16_443_732);
+    }
 }

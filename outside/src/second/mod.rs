@@ -9,11 +9,14 @@ pub mod run;
 pub mod sluices;
 pub mod survey;
 pub mod text;
+pub mod tides;
 
 #[cfg(test)]
 mod tests;
+#[cfg(test)]
+mod tide_tests;
 
-/// A refusal is its number in document 01, "Turned down, in checking order".
+/// A refusal is its number in document 01, "Turned down, in checking order", or in the request of document 02 that adds it.
 pub type Refusal = u8;
 
 /// What a call of an engine answers. A move names the notch that its sluice has come to: document 02, request 8.
@@ -24,9 +27,9 @@ pub enum Answer {
     Refused(Refusal),
 }
 
-/// Refusal 9: the lent output is shorter than the bytes to be written.
-fn check_room(bytes: u128, room: usize) -> Result<(), Refusal> {
-    if bytes > room as u128 {
+/// Refusal 9: the lent output is shorter than the bytes, or the counts of request 1, to be written.
+fn check_room(wanted: u128, room: usize) -> Result<(), Refusal> {
+    if wanted > room as u128 {
         return Err(9);
     }
     Ok(())

@@ -28,8 +28,8 @@ low-digits-read (suc k) v =
     let high : v / 10 ^ suc k * 10 + (glyph (v / 10 ^ k % 10) - 48) ≡ v / 10 ^ k = omega arith in
     ap (λ w. valueFrom w (digitsOf k v)) high ∙ low-digits-read k v
 
-pub written-is-read : (k v : ℕ) → v < 10 ^ k → value (digitsOf k v) ≡ v
-written-is-read k v h = ap (λ w. valueFrom w (digitsOf k v)) (sym (div-eq-of-lt h)) ∙ low-digits-read k v
+pub digits-read-back : (k v : ℕ) → v < 10 ^ k → value (digitsOf k v) ≡ v
+digits-read-back k v h = ap (λ w. valueFrom w (digitsOf k v)) (sym (div-eq-of-lt h)) ∙ low-digits-read k v
 
 -- ---- written for what was read
 -- one digit more: what stands before it, and the digit
@@ -60,5 +60,5 @@ low-digits-written w (b ∷ bs) e =
     (ap (λ n. glyph (n % 10)) (high-digits-kept v bs others) ∙ before-digit w b first .1)
     (low-digits-written v bs others)
 
-pub read-is-written : (bs : List ℕ) → allDigits bs ≡ true → digitsOf (length bs) (value bs) ≡ bs
-read-is-written bs e = low-digits-written 0 bs e
+pub digits-written-back : (bs : List ℕ) → allDigits bs ≡ true → digitsOf (length bs) (value bs) ≡ bs
+digits-written-back bs e = low-digits-written 0 bs e

@@ -1,0 +1,5 @@
+-- Laws that the proofs of several functions cite.
+pub mod Answered
+pub mod Ranges
+pub mod Notices
+pub mod Readings
