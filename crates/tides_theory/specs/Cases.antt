@@ -14,9 +14,10 @@ use Rattle.tides_theory.specs.Lines.{linesIn, hasForm, noticeIn, inRange
 use Rattle.tides_theory.specs.Windows.{tideOf, inOrder, windows, anyAllows}
 use Rattle.tides_theory.specs.Calls.{countsCall, mayBeginCall}
 
--- what a row is about: a number, a date, whether something is so, or an answer of one of the calls
+-- what a row is about: numbers, a date, whether something is so, or what one of the calls answers
 pub data Case : Type 0 where
   number : ℕ → Case
+  numbers : List ℕ → Case
   day : Date → Case
   truth : Bool → Case
   counts : Answer (List ℕ) → Case
@@ -36,7 +37,10 @@ row a b = record { computed = a; said = b }
 abbrev date : ℕ → ℕ → ℕ → Date
 date y m d = record { year = y; month = m; day = d }
 
--- the minute of a line, and whether it is read
+abbrev months : List ℕ
+months = 1 ∷ 2 ∷ 3 ∷ 4 ∷ 5 ∷ 6 ∷ 7 ∷ 8 ∷ 9 ∷ 10 ∷ 11 ∷ 12 ∷ []
+
+-- the minute of a line
 abbrev minute : List ℕ → ℕ
 minute line = tideOf (noticeIn line) .at
 
@@ -67,6 +71,9 @@ table =
     ∷ row (truth (exists (date 2031 13 1))) (truth false)
     ∷ row (truth (exists (date 2031 0 1))) (truth false)
     ∷ row (truth (exists (date 2031 1 0))) (truth false)
+    -- the days of the twelve months
+    ∷ row (numbers (map (daysInMonth 2031) months)) (numbers (31 ∷ 28 ∷ 31 ∷ 30 ∷ 31 ∷ 30 ∷ 31 ∷ 31 ∷ 30 ∷ 31 ∷ 30 ∷ 31 ∷ []))
+    ∷ row (numbers (map (daysInMonth 2096) months)) (numbers (31 ∷ 29 ∷ 31 ∷ 30 ∷ 31 ∷ 30 ∷ 31 ∷ 31 ∷ 30 ∷ 31 ∷ 30 ∷ 31 ∷ []))
     -- the day after
     ∷ row (day (dayAfter (date 2096 2 28))) (day (date 2096 2 29))
     ∷ row (day (dayAfter (date 2100 2 28))) (day (date 2100 3 1))
@@ -115,6 +122,7 @@ table =
     ∷ row (begins (mayBeginCall early 117)) (begins (given false))
     ∷ row (begins (mayBeginCall early 120)) (begins (given false))
     ∷ row (begins (mayBeginCall early 18446744073709551615)) (begins (given false))
+    ∷ row (begins (mayBeginCall (early ++ ascii "2000-01-01,03:00,H\n2000-01-01,05:00,L\n") 240)) (begins (given true))
     ∷ row (begins (mayBeginCall [] 60)) (begins (given false))
     ∷ row (begins (mayBeginCall (early ++ ascii "2000-01-01,02:00,H\n") 60)) (begins (refused 13))
     ∷ row (begins (mayBeginCall (early ++ ascii "2000-01-01,02:00,H\n2000") 60)) (begins (refused 12))
