@@ -16,10 +16,12 @@ use Rattle.tides_theory.specs.Calls.{tidesIn, windowsIn}
 use Rattle.tides_theory.specs.Exact.{lines-say-what-is-in-range}
 use Rattle.tides_theory.specs.Chunks.{line-length, line-in-front, lines-make-the-file, no-line-in-front}
 use Rattle.tides_theory.specs.QuickDays.{minutes-of-a-century}
-use Rattle.tides.specs.Stages.{tideIn, letterOf, lineAs, freshCourse, closes, courseThen, passing}
+use Rattle.tides.specs.Stages.{dayOf, Right, tideIn, letterOf, lineAs, freshCourse, closes, courseThen, passing}
+use Rattle.tides.specs.declared.line.Day.{Day}
 use Rattle.tides.specs.declared.line.Line.the-variants.{Tide as LineTide, Unread}
 use Rattle.tides.specs.declared.course.Course.{Course}
 use Rattle.tides.specs.declared.calls.Passed.the-variants.{Windows, Refused}
+use Rattle.tides.proofs.line.Readings.{day-right, answer}
 
 -- ---- one window
 pub outside : (from to minute : ℕ) → to ≤ minute → false ≡ allows (record { from = from; to = to }) minute
@@ -287,29 +289,31 @@ again file minute at c d moment letter t here e m l bound f =
     })
 
 -- ---- what a line was read as
-pub record Said (line : List ℕ) (moment letter : ℕ) : Type 0 where
+pub record Said (line : List ℕ) (moment letter : ℕ) (day : Day) : Type 0 where
   pub is : isLine line ≡ true
   pub moment-is : moment ≡ tideIn line .at
   pub letter-is : letter ≡ letterOf (tideIn line .high)
+  pub right : Right day
   pub bound : moment < 52596000
 
-pub said : (line : List ℕ) (moment letter : ℕ) → lineAs line ≡ LineTide moment letter → Said line moment letter
+pub said : (line : List ℕ) (moment letter : ℕ) (day : Day) → lineAs line ≡ LineTide moment letter day
+    → Said line moment letter day
 unfolding lineAs
-said line moment letter e = by (isLine line) refl e
+said line moment letter day e = by (isLine line) refl e
   where
-    by : (t : Bool) → isLine line ≡ t → cond t (LineTide (tideIn line .at) (letterOf (tideIn line .high))) Unread ≡ LineTide moment letter
-        → Said line moment letter
+    by : (t : Bool) → isLine line ≡ t → answer line t ≡ LineTide moment letter day → Said line moment letter day
     by true is f =
         let m : moment ≡ tideIn line .at = cc in
+        let d : dayOf line ≡ day = cc in
         let century = minutes-of-a-century (noticeIn line) (lines-say-what-is-in-range line is) in
-        record { is = is; moment-is = m; letter-is = cc; bound = omega arith }
+        record { is = is; moment-is = m; letter-is = cc; right = subst Right d (day-right line is); bound = omega arith }
     by false is f = impossible (cc)
 
 pub unsaid : (line : List ℕ) → lineAs line ≡ Unread → isLine line ≡ false
 unfolding lineAs
 unsaid line e = by (isLine line) e
   where
-    by : (t : Bool) → cond t (LineTide (tideIn line .at) (letterOf (tideIn line .high))) Unread ≡ Unread → t ≡ false
+    by : (t : Bool) → answer line t ≡ Unread → t ≡ false
     by true f = impossible (cc)
     by false f = refl
 

@@ -2,4 +2,6 @@
 pub mod Answered
 pub mod Ranges
 pub mod Notices
+pub mod Words
+pub mod Dates
 pub mod Readings

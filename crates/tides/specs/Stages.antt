@@ -1,15 +1,19 @@
 -- What the private functions of this crate answer.
 use Prim.Native.Nat.{ℕ, _+_, _-_, _*_, _/_, _%_, _^_, _≤_, _<_}
+use mathlib.Core.Path.{_≡_}
 use mathlib.Core.Bool.{Bool, true, false, cond, _&&_, _||_, not}
 use mathlib.Core.List.{List, [], _∷_}
 use lib.Dec.{eqb, leb, ltb}
 use lib.ListN.{length, getD}
 use Rattle.text_theory.specs.Decimals.{isDigit}
-use Rattle.tides_theory.specs.Calendar.{Date, minuteOf}
+use Rattle.tides_theory.specs.Calendar.{Date, dayNumber}
 use Rattle.tides_theory.specs.Lines.{highLetter, lowLetter, noticeIn, isLine}
 use Rattle.tides_theory.specs.Windows.{Tide, tideOf, allows, anyAllows}
 use Rattle.tides_theory.specs.Calls.{windowsIn, unreadable, disordered}
 use Rattle.tides.specs.declared.line.Fields.{Fields}
+use Rattle.tides.specs.declared.line.Day.{Day}
+use Rattle.tides.specs.declared.line.Dated.{Dated}
+use Rattle.tides.specs.declared.line.Dated.the-variants.{On, Unread as NoDate}
 use Rattle.tides.specs.declared.line.Line.{Line}
 use Rattle.tides.specs.declared.line.Line.the-variants.{Tide as LineTide, Unread}
 use Rattle.tides.specs.declared.course.Course.{Course}
@@ -25,16 +29,20 @@ lineBytes file at =
     ∷ getD file (at + 10) 0 ∷ getD file (at + 11) 0 ∷ getD file (at + 12) 0 ∷ getD file (at + 13) 0 ∷ getD file (at + 14) 0
     ∷ getD file (at + 15) 0 ∷ getD file (at + 16) 0 ∷ getD file (at + 17) 0 ∷ getD file (at + 18) 0 ∷ []
 
--- its fixed bytes, the year's first two digits among them
-abbrev pub marks : List ℕ → Bool
-marks line =
+-- the fixed bytes of its date, the year's first two digits among them, and those behind it
+abbrev pub dateMarks : List ℕ → Bool
+dateMarks line =
     eqb (getD line 0 0) 50 && eqb (getD line 1 0) 48 && eqb (getD line 4 0) 45 && eqb (getD line 7 0) 45 && eqb (getD line 10 0) 44
-    && eqb (getD line 13 0) 58 && eqb (getD line 16 0) 44 && eqb (getD line 18 0) 10
+
+abbrev pub timeMarks : List ℕ → Bool
+timeMarks line = eqb (getD line 13 0) 58 && eqb (getD line 16 0) 44 && eqb (getD line 18 0) 10
 
 -- the last byte of each number
-abbrev pub ones : List ℕ → Bool
-ones line =
-    isDigit (getD line 3 0) && isDigit (getD line 6 0) && isDigit (getD line 9 0) && isDigit (getD line 12 0) && isDigit (getD line 15 0)
+abbrev pub dateOnes : List ℕ → Bool
+dateOnes line = isDigit (getD line 3 0) && isDigit (getD line 6 0) && isDigit (getD line 9 0)
+
+abbrev pub timeOnes : List ℕ → Bool
+timeOnes line = isDigit (getD line 12 0) && isDigit (getD line 15 0)
 
 abbrev pub isLetter : ℕ → Bool
 isLetter b = eqb b highLetter || eqb b lowLetter
@@ -67,17 +75,58 @@ lengthOf k m = cond (eqb m 2) (28 + leapDay k) (30 + (m + m / 8) % 2)
 unfoldable pub lacking : ℕ → ℕ → ℕ
 lacking k m = cond (leb m 2) 0 (2 - leapDay k)
 
-unfoldable pub ranged : Fields → Bool
-ranged f =
-    among (f .years) 0 99 && among (f .month) 1 12 && among (f .hour) 0 23 && among (f .minute) 0 59
-    && among (f .day) 1 (lengthOf (f .years - 528) (f .month - 528))
+unfoldable pub dateRanged : Fields → Bool
+dateRanged f = among (f .years) 0 99 && among (f .month) 1 12 && among (f .day) 1 (lengthOf (f .years - 528) (f .month - 528))
+
+unfoldable pub timeRanged : Fields → Bool
+timeRanged f = among (f .hour) 0 23 && among (f .minute) 0 59
 
 abbrev pub dateIn : Fields → Date
 dateIn f = record { year = 2000 + (f .years - 528); month = f .month - 528; day = f .day - 528 }
 
-abbrev pub minuteIn : Fields → ℕ
-minuteIn f = minuteOf (dateIn f) (f .hour - 528) (f .minute - 528)
+-- the minute at which the date begins, that of the day, and both
+abbrev pub startIn : Fields → ℕ
+startIn f = dayNumber (dateIn f) * 1440
 
+abbrev pub timeIn : Fields → ℕ
+timeIn f = (f .hour - 528) * 60 + (f .minute - 528)
+
+abbrev pub minuteIn : Fields → ℕ
+minuteIn f = startIn f + timeIn f
+
+-- ---- its date
+-- eight bytes as a number
+abbrev pub wordOf : List ℕ → ℕ → ℕ
+wordOf line i =
+    getD line i 0 + getD line (i + 1) 0 * 256 + getD line (i + 2) 0 * 65536 + getD line (i + 3) 0 * 16777216
+    + getD line (i + 4) 0 * 4294967296 + getD line (i + 5) 0 * 1099511627776 + getD line (i + 6) 0 * 281474976710656
+    + getD line (i + 7) 0 * 72057594037927936
+
+-- the date of a line is read
+abbrev pub dated : List ℕ → Bool
+dated line = dateMarks line && dateOnes line && dateRanged (fieldsOf line)
+
+abbrev pub dayOf : List ℕ → Day
+dayOf line = record { head = wordOf line 0; tail = wordOf line 3; start = startIn (fieldsOf line) }
+
+unfoldable pub dayAs : List ℕ → Dated
+dayAs line = cond (dated line) (On (dayOf line)) NoDate
+
+-- the day of some line whose date is read
+pub record Right (day : Day) : Type 0 where
+  pub line : List ℕ
+  pub read : dated line ≡ true
+  pub is : day ≡ dayOf line
+
+-- the numbers of a day, at a place of a file
+abbrev pub hasNumbers : List ℕ → ℕ → Day → Bool
+hasNumbers file at day = eqb (wordOf file at) (day .head) && eqb (wordOf file (at + 3)) (day .tail)
+
+-- 2000-01-01, with the numbers of `2000-01-01,`
+abbrev pub firstKnown : Day
+firstKnown = record { head = 3256436976205705266; tail = 3184379382184553776; start = 0 }
+
+-- ---- all that it says
 -- the tide of a line, and its letter
 abbrev pub tideIn : List ℕ → Tide
 tideIn line = tideOf (noticeIn line)
@@ -86,7 +135,7 @@ abbrev pub letterOf : Bool → ℕ
 letterOf high = cond high highLetter lowLetter
 
 unfoldable pub lineAs : List ℕ → Line
-lineAs line = cond (isLine line) (LineTide (tideIn line .at) (letterOf (tideIn line .high))) Unread
+lineAs line = cond (isLine line) (LineTide (tideIn line .at) (letterOf (tideIn line .high)) (dayOf line)) Unread
 
 -- ---- lines one after another
 abbrev pub freshCourse : Course

@@ -1,6 +1,7 @@
 // The calls on a harbour file.
 
 use crate::course::Course;
+use crate::line::Day;
 use crate::line::LINE;
 use crate::line::LOW;
 use crate::line::Line;
@@ -54,13 +55,15 @@ fn pass(file: &[u8], minute: u64) -> Passed
         return Passed::Refused(12);
     }
     let mut course = Course::fresh();
+    let mut day = Day::first();
     let mut at = 0;
     while at < file.len() {
-        let line = line_at(file, at);
-        let Line::Tide(tide, letter) = line else {
+        let line = line_at(file, at, day);
+        let Line::Tide(tide, letter, date) = line else {
             return Passed::Refused(12);
         };
         course = course.then(tide, letter, minute);
+        day = date;
         at += LINE;
     }
     if !course.ordered {

@@ -9,9 +9,10 @@ use Rattle.tides_theory.specs.Calendar.{exists, daysInMonth}
 use Rattle.tides_theory.specs.Lines.{Notice, inRange}
 use Rattle.tides_theory.specs.Days.{Exists, exists-says}
 use Rattle.tides.specs.declared.line.Fields.{Fields}
-use Rattle.tides.specs.Stages.{ranged, dateIn}
+use Rattle.tides.specs.Stages.{dateRanged, timeRanged, dateIn}
 use Rattle.tides.proofs.line.Answered.{all-five}
-use Rattle.tides.proofs.line.Ranges.{length-bound, length-is, Ranged, ranged-shown}
+use Rattle.tides.proofs.line.Ranges.{length-bound, length-is, DateRanged, TimeRanged}
+use Rattle.tides.proofs.line.Ranges.{date-ranged-shown, time-ranged-shown}
 
 -- ---- in range
 -- what a notice in range says
@@ -67,8 +68,8 @@ abbrev pub noticeOf : Fields → Bool → Notice
 noticeOf f high = record { date = dateIn f; hour = f .hour - 528; minute = f .minute - 528; high = high }
 
 -- it is in range if they are in their ranges,
-pub ranged-in-range : (f : Fields) (high : Bool) → Ranged f → inRange (noticeOf f high) ≡ true
-ranged-in-range f high r =
+pub ranged-in-range : (f : Fields) (high : Bool) → DateRanged f → TimeRanged f → inRange (noticeOf f high) ≡ true
+ranged-in-range f high r t =
     let long = length-is (f .years - 528) (f .month - 528) (omega arith) (omega arith) (omega arith) in
     in-range-shown (noticeOf f high) (record {
       from = omega arith;
@@ -86,15 +87,19 @@ pub record FromZero (f : Fields) : Type 0 where
   pub hour : 528 ≤ f .hour
   pub minute : 528 ≤ f .minute
 
-pub in-range-ranged : (f : Fields) (high : Bool) → FromZero f → inRange (noticeOf f high) ≡ true → ranged f ≡ true
+pub in-range-ranged : (f : Fields) (high : Bool) → FromZero f → inRange (noticeOf f high) ≡ true
+    → (dateRanged f ≡ true) × (timeRanged f ≡ true)
 in-range-ranged f high z e =
     let r = in-range-says (noticeOf f high) e in
-    let long = length-is (f .years - 528) (f .month - 528) (omega arith) (omega arith) (omega arith) in
-    ranged-shown f (record {
-      years = record { from = omega arith; to = omega arith };
-      month = record { from = omega arith; to = omega arith };
-      hour = record { from = omega arith; to = omega arith };
-      minute = record { from = omega arith; to = omega arith };
-      day = record { from = omega arith; to = omega arith };
-      short = length-bound (f .years - 528) (f .month - 528);
-    })
+    let long = length-is (f .years - 528) (f .month - 528) (omega arith) (omega arith) (omega arith) in (
+      date-ranged-shown f (record {
+        years = record { from = omega arith; to = omega arith };
+        month = record { from = omega arith; to = omega arith };
+        day = record { from = omega arith; to = omega arith };
+        short = length-bound (f .years - 528) (f .month - 528);
+      }),
+      time-ranged-shown f (record {
+        hour = record { from = omega arith; to = omega arith };
+        minute = record { from = omega arith; to = omega arith };
+      }),
+    )

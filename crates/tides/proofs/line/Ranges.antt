@@ -5,11 +5,11 @@ use mathlib.Core.Path.{_≡_, refl, ap, _∙_}
 use mathlib.Core.Bool.{Bool, true, false, cond, and-eq-true-iff}
 use borrow.Author.Tests.{leb-true, le-leb}
 use lib.Dec.{eqb, leb}
-use Rattle.tides_theory.specs.Calendar.{daysInMonth, daysOfYears, daysOfMonths, minuteOf}
+use Rattle.tides_theory.specs.Calendar.{daysInMonth, daysOfYears, daysOfMonths, dayNumber}
 use Rattle.tides_theory.specs.QuickDays.{quick-years, quick-length, quick-months}
 use Rattle.tides.specs.declared.line.Fields.{Fields}
-use Rattle.tides.specs.Stages.{among, leapDay, lengthOf, lacking, ranged, minuteIn}
-use Rattle.tides.proofs.line.Answered.{all-five}
+use Rattle.tides.specs.Stages.{among, leapDay, lengthOf, lacking, dateRanged, timeRanged, startIn, timeIn, minuteIn}
+use Rattle.tides.proofs.line.Answered.{all-three}
 
 -- ---- months
 -- a leap year has one day more, and no month more than 31
@@ -45,48 +45,53 @@ among-says pair first last e =
     let (a, b) = and-eq-true-iff (leb (528 + first) pair) (leb pair (528 + last)) .0 e in
     record { from = leb-true (528 + first) pair a; to = leb-true pair (528 + last) b }
 
--- and what all numbers of a line say that are in their ranges
-pub record Ranged (f : Fields) : Type 0 where
+-- and what the numbers of a date, and of a time, say that are in their ranges
+pub record DateRanged (f : Fields) : Type 0 where
   pub years : Among (f .years) 0 99
   pub month : Among (f .month) 1 12
-  pub hour : Among (f .hour) 0 23
-  pub minute : Among (f .minute) 0 59
   pub day : Among (f .day) 1 (lengthOf (f .years - 528) (f .month - 528))
   pub short : lengthOf (f .years - 528) (f .month - 528) ≤ 31
 
-pub ranged-says : (f : Fields) → ranged f ≡ true → Ranged f
-unfolding ranged
-ranged-says f e =
+pub date-ranged-says : (f : Fields) → dateRanged f ≡ true → DateRanged f
+unfolding dateRanged
+date-ranged-says f e =
     let length = lengthOf (f .years - 528) (f .month - 528) in
-    let (y, m, h, n, d) =
-    all-five (among (f .years) 0 99) (among (f .month) 1 12) (among (f .hour) 0 23) (among (f .minute) 0 59)
-    (among (f .day) 1 length)
-    e in
+    let (y, m, d) = all-three (among (f .years) 0 99) (among (f .month) 1 12) (among (f .day) 1 length) e in
     record {
       years = among-says (f .years) 0 99 y;
       month = among-says (f .month) 1 12 m;
-      hour = among-says (f .hour) 0 23 h;
-      minute = among-says (f .minute) 0 59 n;
       day = among-says (f .day) 1 length d;
       short = length-bound (f .years - 528) (f .month - 528);
     }
+
+pub record TimeRanged (f : Fields) : Type 0 where
+  pub hour : Among (f .hour) 0 23
+  pub minute : Among (f .minute) 0 59
+
+pub time-ranged-says : (f : Fields) → timeRanged f ≡ true → TimeRanged f
+unfolding timeRanged
+time-ranged-says f e =
+    let (h, m) = and-eq-true-iff (among (f .hour) 0 23) (among (f .minute) 0 59) .0 e in
+    record { hour = among-says (f .hour) 0 23 h; minute = among-says (f .minute) 0 59 m }
 
 -- and back
 among-shown : (pair first last : ℕ) → Among pair first last → among pair first last ≡ true
 among-shown pair first last a = rw (le-leb (528 + first) pair (a .from), le-leb pair (528 + last) (a .to)) refl
 
-pub ranged-shown : (f : Fields) → Ranged f → ranged f ≡ true
-unfolding ranged
-ranged-shown f r =
+pub date-ranged-shown : (f : Fields) → DateRanged f → dateRanged f ≡ true
+unfolding dateRanged
+date-ranged-shown f r =
     rw (
       among-shown (f .years) 0 99 (r .years),
       among-shown (f .month) 1 12 (r .month),
-      among-shown (f .hour) 0 23 (r .hour),
-      among-shown (f .minute) 0 59 (r .minute),
       among-shown (f .day) 1 (lengthOf (f .years - 528) (f .month - 528)) (r .day),
     ) refl
 
--- ---- the minute
+pub time-ranged-shown : (f : Fields) → TimeRanged f → timeRanged f ≡ true
+unfolding timeRanged
+time-ranged-shown f r = rw (among-shown (f .hour) 0 23 (r .hour), among-shown (f .minute) 0 59 (r .minute)) refl
+
+-- ---- the minute at which a date begins
 -- the days before a month, and what February lacks to 30
 pub months-and-lack : (k m : ℕ) → k < 100 → 1 ≤ m → m ≤ 12
     → daysOfMonths (2000 + k) (m - 1) + lacking k m ≡ (m * 367 - 362) / 12
@@ -104,35 +109,34 @@ few-days : (k m d lack : ℕ) → k < 100 → m ≤ 12 → d ≤ 31
     → k * 365 + (k + 3) / 4 + (m * 367 - 362) / 12 - lack + d - 1 < 2 ^ 16
 few-days k m d lack hk hm hd = omega arith
 
-few-minutes : (days hour minute : ℕ) → days < 2 ^ 16 → hour < 24 → minute < 60
-    → (days * 1440 + hour * 60 < 2 ^ 64) × (days * 1440 + hour * 60 + minute < 2 ^ 64)
-few-minutes days hour minute hd hh hm = omega arith
+pub days-few : (f : Fields) (lack : ℕ) → DateRanged f → daysBy f lack < 2 ^ 16
+days-few f lack r =
+    few-days (f .years - 528) (f .month - 528) (f .day - 528) lack (omega arith) (omega arith) (omega arith)
 
--- so no sum wraps
-pub sums-fit : (f : Fields) (lack : ℕ) → Ranged f
-    → (daysBy f lack * 1440 + (f .hour - 528) * 60 < 2 ^ 64)
-    × (daysBy f lack * 1440 + (f .hour - 528) * 60 + (f .minute - 528) < 2 ^ 64)
-sums-fit f lack r =
-    few-minutes (daysBy f lack) (f .hour - 528) (f .minute - 528)
-    (few-days (f .years - 528) (f .month - 528) (f .day - 528) lack (omega arith) (omega arith) (omega arith))
-    (omega arith)
-    (omega arith)
-
--- and the sum is the minute
-counted : (k m d hour minute : ℕ) → k < 100 → 1 ≤ m → m ≤ 12 → 1 ≤ d
-    → (k * 365 + (k + 3) / 4 + (m * 367 - 362) / 12 - lacking k m + d - 1) * 1440 + hour * 60 + minute
-    ≡ minuteOf (record { year = 2000 + k; month = m; day = d }) hour minute
-counted k m d hour minute h one twelve first =
+-- and their number is that of the day
+counted : (k m d : ℕ) → k < 100 → 1 ≤ m → m ≤ 12 → 1 ≤ d
+    → k * 365 + (k + 3) / 4 + (m * 367 - 362) / 12 - lacking k m + d - 1
+    ≡ dayNumber (record { year = 2000 + k; month = m; day = d })
+counted k m d h one twelve first =
     let same : 2000 + k - 2000 ≡ k = omega arith in
     let years = ap daysOfYears same ∙ quick-years k (omega arith) in
     let months = months-and-lack k m h one twelve in
     omega arith
 
-pub minute-counted : (f : Fields) → Ranged f
-    → daysBy f (lacking (f .years - 528) (f .month - 528)) * 1440 + (f .hour - 528) * 60 + (f .minute - 528) ≡ minuteIn f
-minute-counted f r =
-    counted (f .years - 528) (f .month - 528) (f .day - 528) (f .hour - 528) (f .minute - 528)
-    (omega arith)
-    (omega arith)
-    (omega arith)
-    (omega arith)
+pub start-counted : (f : Fields) → DateRanged f
+    → daysBy f (lacking (f .years - 528) (f .month - 528)) * 1440 ≡ startIn f
+start-counted f r =
+    ap (λ n. n * 1440)
+    (counted (f .years - 528) (f .month - 528) (f .day - 528) (omega arith) (omega arith) (omega arith) (omega arith))
+
+-- with the minute of the day it fits
+few-minutes : (days start time : ℕ) → days < 2 ^ 16 → days * 1440 ≡ start → time < 2 ^ 16 → start + time < 2 ^ 64
+few-minutes days start time h e k = omega arith
+
+time-few : (f : Fields) → TimeRanged f → timeIn f < 2 ^ 16
+time-few f r = omega arith
+
+pub minute-fits : (f : Fields) → DateRanged f → TimeRanged f → minuteIn f < 2 ^ 64
+minute-fits f d t =
+    let lack = lacking (f .years - 528) (f .month - 528) in
+    few-minutes (daysBy f lack) (startIn f) (timeIn f) (days-few f lack d) (start-counted f d) (time-few f t)

@@ -1,11 +1,11 @@
 -- 19 bytes are a line that is read exactly if they pass the code's tests, and then they say what the code counts.
 use Prim.Native.Nat.{ℕ, zero, suc, _+_, _-_, _/_, _%_, _≤_, _<_}
 use native.Mathlib.Omega.{arith}
-use mathlib.Core.Path.{_≡_, refl, sym, ap, subst, _∙_}
+use mathlib.Core.Path.{_≡_, refl, sym, ap, ap₂, subst, _∙_}
 use mathlib.Core.Bool.{Bool, true, false, cond, _||_, and-eq-true-iff}
 use mathlib.Core.List.{List, [], _∷_}
-use borrow.Author.Tests.{leb-true, eqb-true, eq-eqb}
-use lib.Dec.{eqb, leb}
+use borrow.Author.Tests.{eqb-true, eq-eqb}
+use lib.Dec.{eqb}
 use lib.ListN.{length, getD, take, drop}
 use lib.Seq.{drop-cons}
 use Rattle.gray_theory.specs.Bools.{impossible}
@@ -17,11 +17,13 @@ use Rattle.tides_theory.specs.FieldDigits.{glyph-is-digit}
 use Rattle.tides_theory.specs.Exact.{notices-have-lines, lines-are-their-notices, lines-say-what-is-in-range}
 use Rattle.tides.specs.declared.line.Line.{Line}
 use Rattle.tides.specs.declared.line.Line.the-variants.{Tide, Unread}
-use Rattle.tides.specs.Stages.{lineBytes, marks, ones, isLetter, pairOf, fieldsOf, lengthOf, ranged, minuteIn}
-use Rattle.tides.specs.Stages.{tideIn, letterOf, lineAs}
-use Rattle.tides.proofs.line.Answered.{all-five, all-eight}
-use Rattle.tides.proofs.line.Ranges.{Among, ranged-says}
+use Rattle.tides.specs.declared.line.Fields.{Fields}
+use Rattle.tides.specs.Stages.{lineBytes, dateMarks, timeMarks, dateOnes, timeOnes, isLetter, pairOf, fieldsOf}
+use Rattle.tides.specs.Stages.{dateRanged, timeRanged, minuteIn, dated, dayOf, Right, tideIn, letterOf, lineAs}
+use Rattle.tides.proofs.line.Answered.{all-three, all-pass}
+use Rattle.tides.proofs.line.Ranges.{time-ranged-says}
 use Rattle.tides.proofs.line.Notices.{InRange, in-range-says, day-bound, noticeOf, ranged-in-range, in-range-ranged}
+use Rattle.tides.proofs.line.Dates.{Paired, paired, date-says}
 
 -- ---- the bytes of a line
 -- k bytes, the first of them i behind a place. At 18 and 1 it computes to those of `lineBytes` behind the first
@@ -53,18 +55,7 @@ two-read v h = omega arith
 four-read : (y : ℕ) → 2000 ≤ y → y ≤ 2099 → 2000 + (pairOf (glyph (y / 10 % 10)) (glyph (y / 1 % 10)) - 528) ≡ y
 four-read y from to = omega arith
 
--- and from two bytes, of which the last is a digit, back. The first then is one too
-record Paired (a b : ℕ) : Type 0 where
-  first : 48 ≤ b
-  last : b ≤ 57
-  from : 528 ≤ pairOf a b
-  to : pairOf a b ≤ 627
-
-paired : (a b first last : ℕ) → isDigit b ≡ true → Among (pairOf a b) first last → last ≤ 99 → Paired a b
-paired a b first last e r h =
-    let (from, to) = and-eq-true-iff (leb 48 b) (leb b 57) .0 e in
-    record { first = leb-true 48 b from; last = leb-true b 57 to; from = omega arith; to = omega arith }
-
+-- and from the two bytes of a number back
 two-written : (a b : ℕ) → Paired a b → digitsOf 2 (pairOf a b - 528) ≡ a ∷ b ∷ []
 unfolding digitsOf
 two-written a b p =
@@ -103,10 +94,11 @@ letter-fits false = refl
 -- ---- a line that is read passes the tests
 -- the code's tests
 pub record Passes (line : List ℕ) : Type 0 where
-  pub marked : marks line ≡ true
-  pub digits : ones line ≡ true
+  pub date : dated line ≡ true
+  pub marked : timeMarks line ≡ true
+  pub digits : timeOnes line ≡ true
   pub letter : isLetter (getD line 17 0) ≡ true
-  pub range : ranged (fieldsOf line) ≡ true
+  pub range : timeRanged (fieldsOf line) ≡ true
 
 -- the numbers of the line of a notice say the notice
 numbers-say : (n : Notice) → InRange n → noticeOf (fieldsOf (lineOf n)) (n .high) ≡ n
@@ -125,7 +117,8 @@ numbers-say n r =
     }
 
 -- so the line of a notice in range passes the tests, and with it any line that is read: it is that of what it says
-written-ranged : (n : Notice) → inRange n ≡ true → ranged (fieldsOf (lineOf n)) ≡ true
+written-ranged : (n : Notice) → inRange n ≡ true
+    → (dateRanged (fieldsOf (lineOf n)) ≡ true) × (timeRanged (fieldsOf (lineOf n)) ≡ true)
 unfolding lineOf digitsOf
 written-ranged n e =
     in-range-ranged (fieldsOf (lineOf n)) (n .high)
@@ -137,16 +130,17 @@ unfolding lineOf digitsOf
 written-passes n e =
     let r = in-range-says n e in
     let y = n .date .year in
+    let (date, time) = written-ranged n e in
     record {
-      marked =
-          rw (
-            letter-written (n .high),
-            eq-eqb (glyph (y / 1000 % 10)) 50 (omega arith),
-            eq-eqb (glyph (y / 100 % 10)) 48 (omega arith),
-          ) refl;
+      date =
+          all-pass (dateMarks (lineOf n)) (dateOnes (lineOf n)) (dateRanged (fieldsOf (lineOf n)))
+          (rw (eq-eqb (glyph (y / 1000 % 10)) 50 (omega arith), eq-eqb (glyph (y / 100 % 10)) 48 (omega arith)) refl)
+          (simp glyph-is-digit)
+          date;
+      marked = rw (letter-written (n .high)) refl;
       digits = simp glyph-is-digit;
       letter = rw (letter-written (n .high)) (letter-fits (n .high));
-      range = written-ranged n e;
+      range = time;
     }
 
 read-passes : (line : List ℕ) → isLine line ≡ true → Passes line
@@ -154,11 +148,20 @@ read-passes line e =
     subst Passes (sym (lines-are-their-notices line e)) (written-passes (noticeIn line) (lines-say-what-is-in-range line e))
 
 -- and its minute is the one that the code counts
+minute-of : (f : Fields) (high : Bool) → minuteIn f ≡ tideOf (noticeOf f high) .at
+minute-of f high = omega arith
+
 minute-said : (line : List ℕ) → isLine line ≡ true → minuteIn (fieldsOf line) ≡ tideIn line .at
 minute-said line e =
     let n = noticeIn line in
+    let f = fieldsOf (lineOf n) in
     ap (λ l. minuteIn (fieldsOf l)) (lines-are-their-notices line e)
+    ∙ minute-of f (n .high)
     ∙ ap (λ m. tideOf m .at) (numbers-say n (in-range-says n (lines-say-what-is-in-range line e)))
+
+-- and its day is right
+pub day-right : (line : List ℕ) → isLine line ≡ true → Right (dayOf line)
+day-right line e = record { line = line; read = read-passes line e .date; is = refl }
 
 -- ---- and what passes the tests is a line that is read
 -- 19 bytes that pass are those of the notice of their numbers
@@ -167,48 +170,46 @@ line-written : (line : List ℕ) → line ≡ lineBytes line 0 → Passes line
 unfolding lineOf
 line-written line whole p =
     let b : ℕ → ℕ = λ i. getD line i 0 in
-    let (e0, e1, e4, e7, e10, e13, e16, e18) =
-    all-eight (eqb (b 0) 50) (eqb (b 1) 48) (eqb (b 4) 45) (eqb (b 7) 45) (eqb (b 10) 44) (eqb (b 13) 58) (eqb (b 16) 44)
-    (eqb (b 18) 10)
-    (p .marked) in
-    let (d3, d6, d9, d12, d15) =
-    all-five (isDigit (b 3)) (isDigit (b 6)) (isDigit (b 9)) (isDigit (b 12)) (isDigit (b 15)) (p .digits) in
-    let f = fieldsOf line in
-    let r = ranged-says f (p .range) in
+    let d = date-says line (p .date) in
+    let t = time-ranged-says (fieldsOf line) (p .range) in
+    let (e13, e16, e18) = all-three (eqb (b 13) 58) (eqb (b 16) 44) (eqb (b 18) 10) (p .marked) in
+    let (d12, d15) = and-eq-true-iff (isDigit (b 12)) (isDigit (b 15)) .0 (p .digits) in
     whole
     ∙ rw (
-      four-written (b 2) (b 3) (paired (b 2) (b 3) 0 99 d3 (r .years) (omega arith)),
-      two-written (b 5) (b 6) (paired (b 5) (b 6) 1 12 d6 (r .month) (omega arith)),
-      two-written (b 8) (b 9) (paired (b 8) (b 9) 1 (lengthOf (f .years - 528) (f .month - 528)) d9 (r .day) (omega arith)),
-      two-written (b 11) (b 12) (paired (b 11) (b 12) 0 23 d12 (r .hour) (omega arith)),
-      two-written (b 14) (b 15) (paired (b 14) (b 15) 0 59 d15 (r .minute) (omega arith)),
+      four-written (b 2) (b 3) (d .years),
+      two-written (b 5) (b 6) (d .month),
+      two-written (b 8) (b 9) (d .day),
+      two-written (b 11) (b 12) (paired (b 11) (b 12) 0 23 d12 (t .hour) (omega arith)),
+      two-written (b 14) (b 15) (paired (b 14) (b 15) 0 59 d15 (t .minute) (omega arith)),
       letter-written (eqb (b 17) highLetter),
       letter-is (b 17) (p .letter),
-      eqb-true (b 0) 50 e0,
-      eqb-true (b 1) 48 e1,
-      eqb-true (b 4) 45 e4,
-      eqb-true (b 7) 45 e7,
-      eqb-true (b 10) 44 e10,
+      d .is0,
+      d .is1,
+      d .is4,
+      d .is7,
+      d .is10,
       eqb-true (b 13) 58 e13,
       eqb-true (b 16) 44 e16,
       eqb-true (b 18) 10 e18,
     )
 
 -- what is answered, by whether it is one
-abbrev answer : List ℕ → Bool → Line
-answer line is = cond is (Tide (tideIn line .at) (letterOf (tideIn line .high))) Unread
+abbrev pub answer : List ℕ → Bool → Line
+answer line is = cond is (Tide (tideIn line .at) (letterOf (tideIn line .high)) (dayOf line)) Unread
 
-read : (line : List ℕ) → line ≡ lineBytes line 0 → Passes line → lineAs line ≡ Tide (minuteIn (fieldsOf line)) (getD line 17 0)
+read : (line : List ℕ) → line ≡ lineBytes line 0 → Passes line
+    → lineAs line ≡ Tide (minuteIn (fieldsOf line)) (getD line 17 0) (dayOf line)
 unfolding lineAs
 read line whole p =
     let f = fieldsOf line in
     let l = getD line 17 0 in
     let same = line-written line whole p in
     let high = eqb l highLetter in
-    let r = notices-have-lines (noticeOf f high) (ranged-in-range f high (ranged-says f (p .range))) in
+    let d = date-says line (p .date) in
+    let r = notices-have-lines (noticeOf f high) (ranged-in-range f high (d .ranged) (time-ranged-says f (p .range))) in
     ap (answer line) (ap isLine same ∙ r .read)
-    ∙ ap (λ m. Tide (tideOf m .at) (letterOf (tideOf m .high))) (ap noticeIn same ∙ r .says)
-    ∙ ap (Tide (minuteIn f)) (letter-is l (p .letter))
+    ∙ ap (λ m. Tide (tideOf m .at) (letterOf (tideOf m .high)) (dayOf line)) (ap noticeIn same ∙ r .says)
+    ∙ ap₂ (λ m k. Tide m k (dayOf line)) (sym (minute-of f high)) (letter-is l (p .letter))
 
 -- and where a test fails that each line passes
 unread : (line : List ℕ) (is test : Bool) → isLine line ≡ is → (Passes line → test ≡ true) → test ≡ false → lineAs line ≡ Unread
@@ -219,7 +220,8 @@ unread line false test e needed fails = ap (answer line) e
 -- ---- at a place of a file
 module _ (file : List ℕ) (at : ℕ) (fits : at + 19 ≤ length file) where
   pub line-read : Passes (lineBytes file at)
-      → Tide (minuteIn (fieldsOf (lineBytes file at))) (getD file (at + 17) 0) ≡ lineAs (take 19 (drop at file))
+      → Tide (minuteIn (fieldsOf (lineBytes file at))) (getD file (at + 17) 0) (dayOf (lineBytes file at))
+      ≡ lineAs (take 19 (drop at file))
   line-read p = sym (ap lineAs (line-bytes file at fits) ∙ read (lineBytes file at) refl p)
 
   pub line-unread : (test : Bool) → (Passes (lineBytes file at) → test ≡ true) → test ≡ false
@@ -229,8 +231,13 @@ module _ (file : List ℕ) (at : ℕ) (fits : at + 19 ≤ length file) where
 
   -- of a line that has been read before
   module _ (e : isLine (take 19 (drop at file)) ≡ true) where
-    pub line-ranged : ranged (fieldsOf (lineBytes file at)) ≡ true
-    line-ranged = sym (ap (λ l. ranged (fieldsOf l)) (line-bytes file at fits)) ∙ read-passes (take 19 (drop at file)) e .range
+    pub line-ranged : (dateRanged (fieldsOf (lineBytes file at)) ≡ true) × (timeRanged (fieldsOf (lineBytes file at)) ≡ true)
+    line-ranged =
+        let l = lineBytes file at in
+        let p = subst Passes (line-bytes file at fits) (read-passes (take 19 (drop at file)) e) in
+        (all-three (dateMarks l) (dateOnes l) (dateRanged (fieldsOf l)) (p .date) .2, p .range)
 
     pub line-minute : minuteIn (fieldsOf (lineBytes file at)) ≡ tideIn (take 19 (drop at file)) .at
-    line-minute = sym (ap (λ l. minuteIn (fieldsOf l)) (line-bytes file at fits)) ∙ minute-said (take 19 (drop at file)) e
+    line-minute =
+        sym (ap (λ l. minuteIn (fieldsOf l)) (line-bytes file at fits))
+        ∙ minute-said (take 19 (drop at file)) e

@@ -1,15 +1,15 @@
--- `tides::line::Fields::total` meets its contract: by the bounds of the numbers no sum wraps, and no difference goes below 0.
+-- `tides::line::Fields::start` meets its contract: by the bounds of the numbers no sum wraps, and no difference goes below 0.
 -- Assumes nothing.
 use Prim.Native.Nat.{_-_}
 use native.Mathlib.Omega.{arith}
 use borrow.Author.Needs.{needs}
-use Rattle.tides.proofs.line.Ranges.{Ranged, ranged-says, months-and-lack, sums-fit, minute-counted}
-use Rattle.tides.proofs.line.Fields.total.Statement.{statement}
-use Rattle.tides.proofs.line.Fields.total.Tie as tie
+use Rattle.tides.proofs.line.Ranges.{DateRanged, date-ranged-says, months-and-lack, start-counted}
+use Rattle.tides.proofs.line.Fields.start.Statement.{statement}
+use Rattle.tides.proofs.line.Fields.start.Tie as tie
 
 -- the bounds of the numbers
-known : (c : tie.Start) → Ranged (c .args .self)
-known c = ranged-says (c .args .self) (c .pre)
+known : (c : tie.Start) → DateRanged (c .args .self)
+known c = date-ranged-says (c .args .self) (c .pre)
 
 sub-years : tie.Need-sub-years
 sub-years c = omega (arith, known (c .before))
@@ -58,32 +58,13 @@ sub-result-2 c = omega (arith, known (c .before .before .before .before))
 mul-result : tie.Need-mul-result
 mul-result c = omega (arith, known (c .before .before .before .before))
 
-sub-result-3 : tie.Need-sub-result-3
-sub-result-3 c = omega (arith, known (c .before .before .before .before .before))
-
-mul-result-2 : tie.Need-mul-result-2
-mul-result-2 c = omega (arith, known (c .before .before .before .before .before))
-
-add-result-2 : tie.Need-add-result-2
-add-result-2 c =
-    let start = c .before .before .before .before .before in
-    record { fits = sums-fit (start .args .self) (c .before .before .lacking-before .result) (known start) .0 }
-
-sub-result-4 : tie.Need-sub-result-4
-sub-result-4 c = omega (arith, known (c .before .before .before .before .before .before))
-
-add-result-3 : tie.Need-add-result-3
-add-result-3 c =
-    let start = c .before .before .before .before .before .before in
-    record { fits = sums-fit (start .args .self) (c .before .before .before .lacking-before .result) (known start) .1 }
-
 returns : tie.Need-returns
 returns c =
-    let start = c .before .before .before .before .before .before in
-    rw (c .before .before .before .lacking-before .ensures) (minute-counted (start .args .self) (known start))
+    let start = c .before .before .before .before in
+    rw (c .before .lacking-before .ensures) (start-counted (start .args .self) (known start))
 
-pub total-spec : {M : Type 1} → statement M
-total-spec =
+pub start-spec : {M : Type 1} → statement M
+start-spec =
     tie.close
     (tie.spec
     sub-years
@@ -100,9 +81,4 @@ total-spec =
     add-result
     sub-result-2
     mul-result
-    sub-result-3
-    mul-result-2
-    add-result-2
-    sub-result-4
-    add-result-3
     returns)
