@@ -13,9 +13,8 @@ use Rattle.gray_theory.specs.Bools.{impossible}
 use Rattle.tides_theory.specs.Lines.{highLetter, linesIn, noticeIn, isLine, allLines}
 use Rattle.tides_theory.specs.Windows.{Tide, tideOf, follows, inOrder, Window, windowOf, windows, allows, anyAllows}
 use Rattle.tides_theory.specs.Calls.{tidesIn, windowsIn}
-use Rattle.tides_theory.specs.Exact.{lines-say-what-is-in-range}
 use Rattle.tides_theory.specs.Chunks.{line-length, line-in-front, lines-make-the-file, no-line-in-front}
-use Rattle.tides_theory.specs.QuickDays.{minutes-of-a-century}
+use Rattle.tides_theory.specs.Few.{minute-of-a-line}
 use Rattle.tides.specs.Stages.{dayOf, Right, tideIn, letterOf, lineAs, freshCourse, closes, courseThen, passing}
 use Rattle.tides.specs.declared.line.Day.{Day}
 use Rattle.tides.specs.declared.line.Line.the-variants.{Tide as LineTide, Unread}
@@ -122,9 +121,9 @@ keeps-window c (after a) b s (tide n l) e =
     let same : c .next + 59 ≡ a .at + 60 = omega arith in ap (λ x. allows (record { from = x; to = b .at }) s) same
 
 -- ---- one tide more
-all-three : (o l n r : Bool) → (o && (l && n && r)) ≡ (o && l && n && r)
-all-three true l n r = refl
-all-three false l n r = refl
+and-regroups : (o l n r : Bool) → (o && (l && n && r)) ≡ (o && l && n && r)
+and-regroups true l n r = refl
+and-regroups false l n r = refl
 
 any : (t : Bool) → (a w : Bool) (ws : List Window) (v : Window) (s : ℕ) → (t ≡ true → w ≡ allows v s)
     → (a || anyAllows (cond t (v ∷ ws) ws) s) ≡ (cond t (a || w) a || anyAllows ws s)
@@ -146,7 +145,7 @@ module _ (c : Course) (l : Last) (k : Keeps c l) (b : Tide) (ts : List Tide) (mi
   unfolding courseThen
   order-then =
       ap (λ x. c .ordered && x) (order-more l b ts ∙ ap (λ x. x && inOrder (b ∷ ts)) (sym (keeps-joins c l b k)))
-      ∙ all-three (c .ordered) (leb (c .next) (b .at)) (not (eqb (c .last) (letterOf (b .high)))) (inOrder (b ∷ ts))
+      ∙ and-regroups (c .ordered) (leb (c .next) (b .at)) (not (eqb (c .last) (letterOf (b .high)))) (inOrder (b ∷ ts))
 
   count-then : c .windows + length (windows (behind l (b ∷ ts))) ≡ next .windows + length (windows (b ∷ ts))
   unfolding courseThen
@@ -305,7 +304,7 @@ said line moment letter day e = by (isLine line) refl e
     by true is f =
         let m : moment ≡ tideIn line .at = cc in
         let d : dayOf line ≡ day = cc in
-        let century = minutes-of-a-century (noticeIn line) (lines-say-what-is-in-range line is) in
+        let century = minute-of-a-line line is in
         record { is = is; moment-is = m; letter-is = cc; right = subst Right d (day-right line is); bound = omega arith }
     by false is f = impossible (cc)
 

@@ -10,14 +10,13 @@ use lib.Dec.{ltb, eqb}
 use lib.ListN.{length, getD, take, drop, set, length-map, length-take, length-drop, List·getD-map}
 use lib.Seq.{drop-cons, drop-drop, set-at, take-suc, take-length, length-take-le, append-snoc, getD-take}
 use Rattle.gray_theory.specs.Bools.{impossible}
-use Rattle.text_theory.specs.Ascii.{ascii}
-use Rattle.tides_theory.specs.Lines.{lowLetter, linesIn, noticeIn, isLine, allLines, digitsOf, lineOf}
+use Rattle.tides_theory.specs.Lines.{lowLetter, linesIn, noticeIn, isLine, allLines}
 use Rattle.tides_theory.specs.Windows.{Tide, tideOf, follows, inOrder, Window, windowOf, windows, noWindow, movesThatFit}
 use Rattle.tides_theory.specs.Calls.{tidesIn, windowsIn, Accepted}
-use Rattle.tides_theory.specs.Exact.{lines-are-their-notices, lines-say-what-is-in-range}
-use Rattle.tides_theory.specs.QuickDays.{minutes-of-a-century}
+use Rattle.tides_theory.specs.Few.{minute-of-a-line}
 use Rattle.tides_theory.specs.Chunks.{line-length, line-in-front, no-line-in-front}
 use Rattle.tides.specs.Stages.{tideIn, letterOf, firstHigh}
+use Rattle.tides.proofs.line.Readings.{line-letter}
 
 -- ---- the first line of what is left
 pub record First (l : List ℕ) : Type 0 where
@@ -183,14 +182,6 @@ stored cs before i count h room e =
     ∙ sym (append-snoc (take i cs) (getD cs i 0) (drop (suc i) before))
     ∙ ap (λ t. t ++ drop (suc i) before) (sym (take-suc cs i 0 h))
 
--- the letter of a line
-letter-is : (high : Bool) (line : List ℕ) → isLine line ≡ true → noticeIn line .high ≡ high → getD line 17 0 ≡ letterOf high
-unfolding lineOf digitsOf
-letter-is true line is h =
-    ap (λ l. getD l 17 0) (lines-are-their-notices line is) ∙ ap (λ x. getD (cond x (ascii "H") (ascii "L") ++ ascii "\n") 0 0) h
-letter-is false line is h =
-    ap (λ l. getD l 17 0) (lines-are-their-notices line is) ∙ ap (λ x. getD (cond x (ascii "H") (ascii "L") ++ ascii "\n") 0 0) h
-
 -- where the first window may begin
 starts : (file before : List ℕ) → Accepted file → First file → (high : Bool) → tideIn (take 19 file) .high ≡ high
     → Put file before before (cond (eqb (letterOf high) lowLetter) 19 0) 0
@@ -239,7 +230,7 @@ put-none file before at a e = by (lines file (a .read))
     by (one f) =
         let long = f .long in
         let line = take 19 file in
-        let letter : getD file 17 0 ≡ letterOf (noticeIn line .high) = sym (getD-take 19 file 17 0 (omega arith)) ∙ letter-is (noticeIn line .high) line (f .is) refl in
+        let letter : getD file 17 0 ≡ letterOf (noticeIn line .high) = sym (getD-take 19 file 17 0 (omega arith)) ∙ sym (line-letter line (f .is)) in
         let here : at ≡ cond (eqb (letterOf (noticeIn line .high)) lowLetter) 19 0 =
         e
         ∙ ap (λ t. cond t 0 (cond (eqb (getD file 17 0) lowLetter) 19 0)) (le-ltb (length file) 19 long)
@@ -253,9 +244,6 @@ pub record Here (file : List ℕ) (at : ℕ) : Type 0 where
   pub low-line : isLine (take 19 (drop (at + 19) file)) ≡ true
   pub high-bound : tideIn (take 19 (drop at file)) .at < 52596000
   pub low-bound : tideIn (take 19 (drop (at + 19) file)) .at < 52596000
-
-bounded : (line : List ℕ) → isLine line ≡ true → tideIn line .at < 52596000
-bounded line is = minutes-of-a-century (noticeIn line) (lines-say-what-is-in-range line is)
 
 module _ (file before out : List ℕ) (at i : ℕ) (p : Put file before out at i) (more : i < length (windowsIn file)) where
   left-some : 0 < length (windows (tidesIn (drop at file)))
@@ -275,8 +263,8 @@ module _ (file before out : List ℕ) (at i : ℕ) (p : Put file before out at i
         room = omega (arith, length-drop at file);
         high-line = both .high;
         low-line = low;
-        high-bound = bounded (take 19 (drop at file)) (both .high);
-        low-bound = bounded (take 19 (drop (at + 19) file)) low;
+        high-bound = minute-of-a-line (take 19 (drop at file)) (both .high);
+        low-bound = minute-of-a-line (take 19 (drop (at + 19) file)) low;
       }
 
   -- the count of the next window

@@ -5,6 +5,7 @@ use mathlib.Core.Bool.{Bool, true, false, cond, _&&_, _||_, not}
 use mathlib.Core.List.{List, [], _∷_}
 use lib.Dec.{eqb, leb, ltb}
 use lib.ListN.{length, getD}
+use Rattle.text_theory.specs.Ascii.{ascii}
 use Rattle.text_theory.specs.Decimals.{isDigit}
 use Rattle.tides_theory.specs.Calendar.{Date, dayNumber}
 use Rattle.tides_theory.specs.Lines.{highLetter, lowLetter, noticeIn, isLine}
@@ -122,9 +123,9 @@ pub record Right (day : Day) : Type 0 where
 abbrev pub hasNumbers : List ℕ → ℕ → Day → Bool
 hasNumbers file at day = eqb (wordOf file at) (day .head) && eqb (wordOf file (at + 3)) (day .tail)
 
--- 2000-01-01, with the numbers of `2000-01-01,`
+-- 2000-01-01, which begins at minute 0
 abbrev pub firstKnown : Day
-firstKnown = record { head = 3256436976205705266; tail = 3184379382184553776; start = 0 }
+firstKnown = record { head = wordOf (ascii "2000-01-01,") 0; tail = wordOf (ascii "2000-01-01,") 3; start = 0 }
 
 -- ---- all that it says
 -- the tide of a line, and its letter

@@ -1,6 +1,8 @@
 // The calls on a harbour file.
 
 use crate::course::Course;
+use crate::course::MOVE_TIME;
+use crate::course::WAIT;
 use crate::line::Day;
 use crate::line::LINE;
 use crate::line::LOW;
@@ -90,10 +92,10 @@ fn moves(high: u64, low: u64) -> u32
     requires { ⌜ (high < 2 ^ 32) × (low < 2 ^ 32) ⌝ }
     ensures { λ r. ⌜ r ≡ movesThatFit (record { from = high + 60; to = low }) ⌝ }
 {
-    if low < high + 60 {
+    if low < high + WAIT {
         return 0;
     }
-    ((low - high - 60) / 4) as u32
+    ((low - high - WAIT) / MOVE_TIME) as u32
 }
 
 // The counts of a file that has been read before, for which `out` has room.

@@ -6,6 +6,14 @@ ghost use mathlib.Core.Path.{_≡_};
 ghost use Rattle.tides_theory.specs.Windows.{allows};
 ghost use Rattle.tides.specs.Stages.{freshCourse, courseThen, Bounded};
 
+// The minutes from a high water to its window, and those that a move takes.
+pub(crate) const WAIT: u64 = 60;
+
+pub(crate) const MOVE_TIME: u64 = 4;
+
+// What is left of the wait in the minute after a high water.
+const WAIT_LEFT: u64 = WAIT - 1;
+
 // Behind some lines: the least minute that the next may have, and the last letter (both 0 at the start); whether the lines are
 // in order; how many windows they have; and whether one of these allows the minute that is asked for.
 pub(crate) struct Course {
@@ -23,7 +31,7 @@ fn within(from: u64, to: u64, minute: u64) -> bool
     if to <= minute {
         return false;
     }
-    (from <= minute) & (4 <= to - minute)
+    (from <= minute) & (MOVE_TIME <= to - minute)
 }
 
 impl Course {
@@ -51,7 +59,7 @@ impl Course {
                 last: letter,
                 ordered: ordered,
                 windows: self.windows + 1,
-                allowed: self.allowed | within(self.next + 59, tide, minute),
+                allowed: self.allowed | within(self.next + WAIT_LEFT, tide, minute),
             };
         }
         Course {

@@ -13,6 +13,10 @@ use Rattle.tides_theory.specs.Exact.{lines-say-what-is-in-range}
 use Rattle.tides_theory.specs.Apart.{ordered}
 use Rattle.tides_theory.specs.QuickDays.{minutes-of-a-century}
 
+-- a line says a minute of the century
+pub minute-of-a-line : (line : List ℕ) → isLine line ≡ true → tideOf (noticeIn line) .at < 52596000
+minute-of-a-line line is = minutes-of-a-century (noticeIn line) (lines-say-what-is-in-range line is)
+
 -- each tide opens one window at the most
 at-most : (ts : List Tide) → length (windows ts) ≤ length ts
 unfolding windows
@@ -30,9 +34,7 @@ rising : (l : List ℕ) (ls : List (List ℕ)) → allLines (l ∷ ls) ≡ true 
     → tideOf (noticeIn l) .at + length ls < 52596000
 unfolding allLines
 rising l [] read order =
-    let is = and-eq-true-iff (isLine l) true .0 read .0 in
-    let bound = minutes-of-a-century (noticeIn l) (lines-say-what-is-in-range l is) in
-    omega arith
+    let bound = minute-of-a-line l (and-eq-true-iff (isLine l) true .0 read .0) in omega arith
 rising l (m ∷ ls) read order =
     let o = ordered (tideOf (noticeIn l)) (tideOf (noticeIn m)) (map tideOf (map noticeIn ls)) order in
     let later = o .rises in

@@ -159,6 +159,11 @@ minute-said line e =
     ∙ minute-of f (n .high)
     ∙ ap (λ m. tideOf m .at) (numbers-say n (in-range-says n (lines-say-what-is-in-range line e)))
 
+-- its letter is that of what it says
+pub line-letter : (line : List ℕ) → isLine line ≡ true → letterOf (noticeIn line .high) ≡ getD line 17 0
+unfolding noticeIn
+line-letter line e = letter-is (getD line 17 0) (read-passes line e .letter)
+
 -- and its day is right
 pub day-right : (line : List ℕ) → isLine line ≡ true → Right (dayOf line)
 day-right line e = record { line = line; read = read-passes line e .date; is = refl }
