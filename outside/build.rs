@@ -1,13 +1,17 @@
-// Links the proved library, which `rt staticlib capi` makes, and Algorithm H in C, which is compiled here.
+// Links the proved libraries, which `rt staticlib` makes, and Algorithm H in C, which is compiled here.
 use std::path::Path;
 use std::process::Command;
 
+/// The calls for C and Rust, and the rank in two passes.
+const PROVED: [&str; 2] = ["capi", "two_pass"];
 const ALGORITHM_H: &str = "src/plain/algorithm_h.c";
 
 fn main() {
-    let library = concat!(env!("CARGO_MANIFEST_DIR"), "/../target/staticlib");
-    link("capi", library);
-    println!("cargo:rerun-if-changed={library}/libcapi.a");
+    let libraries = concat!(env!("CARGO_MANIFEST_DIR"), "/../target/staticlib");
+    for name in PROVED {
+        link(name, libraries);
+        println!("cargo:rerun-if-changed={libraries}/lib{name}.a");
+    }
     algorithm_h(&std::env::var("OUT_DIR").expect("cargo names a directory for output"));
     println!("cargo:rerun-if-changed={ALGORITHM_H}");
 }

@@ -46,7 +46,7 @@ fn refusal(x: i64) -> u8 {
 
 /// No value is over 2^62, so a negative number is a refusal's.
 #[inline]
-fn answer(x: i64) -> Answer {
+pub(crate) fn answer(x: i64) -> Answer {
     if x < 0 {
         Err(refusal(x))
     } else {

@@ -38,7 +38,8 @@ fn of_counted(counted: Counted) -> u64
     }
 }
 
-fn of_ranked(ranked: Ranked) -> u64
+// Public for `two_pass`, which answers in the same encoding.
+pub fn of_ranked(ranked: Ranked) -> u64
     ensures { λ r. ⌜ r ≡ encoded (rankedAs ranked) ⌝ }
 {
     match ranked {

@@ -1,30 +1,33 @@
 -- What a turn of each loop adds, and what a stage's answer says, over plain lists and numbers. Assumes nothing.
 use Prim.Native.Nat.{ℕ, zero, suc, _+_, _-_, _*_, _/_, _%_, _^_, _≤_, _<_}
-use native.Mathlib.Nat.{mul-le-mul, mul-le-mul-left, mul-lt-mul-of-pos-right, mul-comm, add-zero, le-of-lt}
+use native.Mathlib.Nat.{le-trans, mul-le-mul, mul-comm, pow-le-pow-right, pow-succ'}
+use native.Mathlib.Numerals.{add-one}
 use native.Mathlib.Nat.{div-lt-iff-lt-mul, le-div-iff-mul-le}
 use native.Mathlib.Omega.{arith}
-use mathlib.Core.Path.{_≡_, refl, sym, ap, ap₂, _∙_}
-use mathlib.Core.Bool.{not, Bool, true, false, _&&_, _||_, and-eq-true-iff}
+use mathlib.Core.Path.{_≡_, refl, sym, ap, ap₂, subst, _∙_}
+use mathlib.Core.Bool.{not, Bool, true, false, _&&_, _||_, and-false}
 use mathlib.Core.List.{List, _∷_, _++_, reverse-cons, reverse-append}
-use borrow.Author.Tests.{lt-ltb, le-ltb, le-leb, lt-leb, ltb-true, ltb-false, leb-true}
+use borrow.Author.Tests.{lt-ltb, le-ltb, le-leb, lt-leb, ltb-true, ltb-false}
 use lib.Dec.{eqb, leb, ltb}
-use lib.ListN.{length, getD, set, take, drop, length-drop, length-reverse}
-use lib.Seq.{take-all, take-add, getD-drop, drop-cons, lt-length-set, getD-set-same, drop-set-lt, append-snoc}
+use lib.ListN.{length, getD, set, take, drop, length-take, length-reverse}
+use lib.Seq.{take-all, take-add, drop-cons, lt-length-set, getD-set-same, drop-set-lt, append-snoc}
 use Rattle.gray_theory.specs.Answers.{given, refused}
 use Rattle.gray_theory.specs.Radices.{digits, bytes, size, allFrom, wrongCount}
 use Rattle.gray_theory.specs.Calls.{sizeCall, rankCall, wordCall}
 use Rattle.gray_theory.specs.Faults.{Fault.count, Fault.radix, Fault.many, Fault.none, lowest-fault-is-given}
 use Rattle.gray_theory.specs.Refusals.{accepted, radices-accepted}
-use Rattle.gray.specs.Stages.{productAs, Taken, checkedAs, checkNumber}
-use Rattle.gray.specs.declared.Checked.{Checked}
-use Rattle.gray.specs.declared.Checked.the-variants.{Fine, Refused as CheckRefused}
+use Rattle.gray.specs.Stages.{productAs, Multiplied, digitAs, twoAs, pairAs, placeAs}
+use Rattle.gray.specs.declared.Place.{Place}
+use Rattle.gray.specs.declared.Place.the-variants.{At, Nowhere}
+use Rattle.gray.specs.declared.Digit.the-variants.{Below, Wrong}
+use Rattle.gray.specs.declared.Product.{Product}
 use Rattle.gray.specs.declared.Product.the-variants.{Within, Over}
 use Rattle.gray_theory.specs.Words.{isWord, reflect, rank, member}
 use Rattle.gray_theory.specs.Indexed.{wordAt}
 use Rattle.gray_theory.specs.Members.{member-is-wordAt, length-wordAt}
-use Rattle.gray_theory.specs.Ranks.{rank-below}
-use Rattle.gray_theory.specs.Digits.{digits-more, size-taken, isWord-taken, word-long}
-use Rattle.gray_theory.specs.Sizes.{size-append}
+use Rattle.gray_theory.specs.Digits.{digits-more, size-taken}
+use Rattle.gray_theory.specs.Ranking.{two-as-one, two-below, below-more, below-all, rank-more, rank-all, not-below}
+use Rattle.gray_theory.specs.Sizes.{size-append, size-pos, size-none}
 use Rattle.gray_theory.specs.Bools.{impossible}
 
 -- ---- none_zero
@@ -62,19 +65,19 @@ over-says n e = go (ltb (2 ^ 62) n) refl
     go true t = ltb-true (2 ^ 62) n t
     go false t = impossible (cc)
 
--- a small product and a radix
-pub small-product : (m p : ℕ) → m < 256 → p ≤ 2 ^ 54 → m * p ≤ 2 ^ 62
-small-product m p h k = let b : m ≤ 255 = omega arith in let t = mul-le-mul b k in omega arith
+-- so is the product of numbers whose bounds' product is
+pub bounded : (p q a b : ℕ) → p ≤ a → q ≤ b → a * b ≤ 2 ^ 62 → p * q ≤ 2 ^ 62
+bounded p q a b h k small = le-trans (mul-le-mul h k) small
 
--- the division tells whether the product is over
-pub divided-over : (m p : ℕ) → 0 < m → 2 ^ 62 / m < p → 2 ^ 62 < m * p
-divided-over m p pos h = let t = div-lt-iff-lt-mul pos .0 h in rw (mul-comm m p) t
+-- the division tells whether a product is over
+pub divided-over : (p q : ℕ) → 0 < q → 2 ^ 62 / q < p → 2 ^ 62 < p * q
+divided-over p q pos h = div-lt-iff-lt-mul pos .0 h
 
-pub divided-within : (m p : ℕ) → 0 < m → p ≤ 2 ^ 62 / m → m * p ≤ 2 ^ 62
-divided-within m p pos h = rw (mul-comm m p) (le-div-iff-mul-le pos .0 h)
+pub divided-within : (p q : ℕ) → 0 < q → p ≤ 2 ^ 62 / q → p * q ≤ 2 ^ 62
+divided-within p q pos h = le-div-iff-mul-le pos .0 h
 
--- ---- one radix more
-size-more : (l : List ℕ) (i m p : ℕ)
+-- ---- product_of_few
+pub size-more : (l : List ℕ) (i m p : ℕ)
     → i < length l
     → m ≡ getD l i 0
     → p ≡ size (digits (take i l))
@@ -82,90 +85,65 @@ size-more : (l : List ℕ) (i m p : ℕ)
 unfolding size
 size-more l i m p h e f = rw (digits-more l i h, e, f)
 
--- ---- four and fours
-pub product-below : (a b k : ℕ) → a < k → b < k → a * b < k * k
-product-below a b k h j =
-    let wide : 0 < k = omega arith in
-    let t : a * b ≤ a * k = mul-le-mul-left a (omega arith) in
-    let u = mul-lt-mul-of-pos-right h wide in
+pub few-more : (i m p : ℕ) → m < 256 → p ≤ 255 ^ i → m * p ≤ 255 ^ (i + 1)
+few-more i m p h k =
+    let next : 255 ^ (i + 1) ≡ 255 * 255 ^ i = rw (add-one i) (pow-succ' 255 i) in
+    let below : m ≤ 255 = omega arith in
+    let t = mul-le-mul below k in
     omega arith
 
-pub product-of-four : (l : List ℕ) (i a b c d : ℕ)
-    → i + 4 ≤ length l
-    → a ≡ getD l i 0
-    → b ≡ getD l (i + 1) 0
-    → c ≡ getD l (i + 2) 0
-    → d ≡ getD l (i + 3) 0
-    → a * b * (c * d) ≡ size (digits (take 4 (drop i l)))
-unfolding size
-product-of-four l i a b c d h ea eb ec ed =
-    let long = length-drop i l in
-    let s = size-more (drop i l) 0 a 1 (omega arith) (rw (getD-drop i l 0 0, add-zero i) ea) refl in
-    let t = size-more (drop i l) 1 b _ (omega arith) (eb ∙ sym (getD-drop i l 1 0)) s in
-    let u = size-more (drop i l) 2 c _ (omega arith) (ec ∙ sym (getD-drop i l 2 0)) t in
-    let v = size-more (drop i l) 3 d _ (omega arith) (ed ∙ sym (getD-drop i l 3 0)) u in
-    let same : a * b * (c * d) ≡ d * (c * (b * (a * 1))) = omega arith in
-    same ∙ v
-
--- a product is within the limit where one factor's bound is small, or the bounds of both
-pub surely : (p q a b c : ℕ)
-    → q < 2 ^ 32
-    → a * 2 ^ 32 ≤ 2 ^ 62
-    → b * c ≤ 2 ^ 62
-    → (leb p a || (leb p b && leb q c)) ≡ true
-    → p * q ≤ 2 ^ 62
-surely p q a b c h one both e = go (leb p a) refl
-  where
-    go : (t : Bool) → leb p a ≡ t → p * q ≤ 2 ^ 62
-    go true t = let u = mul-le-mul (leb-true p a t) (le-of-lt h) in omega arith
-    go false t =
-        let (low, few) = and-eq-true-iff (leb p b) (leb q c) .0 (ap (λ x. x || (leb p b && leb q c)) (sym t) ∙ e) in
-        let u = mul-le-mul (leb-true p b low) (leb-true q c few) in
-        omega arith
-
-pub taken-none : (l : List ℕ) → Taken l 1 0
-unfolding size
-taken-none l = record { count = omega arith; whole = refl; limit = omega arith }
-
-pub taken-four : (l : List ℕ) (p q i : ℕ)
-    → Taken l p i
-    → i + 4 ≤ length l
-    → q ≡ size (digits (take 4 (drop i l)))
-    → p * q ≤ 2 ^ 62
-    → Taken l (p * q) (i + 4)
-taken-four l p q i so h e small =
-    let parts : size (digits (take (i + 4) l)) ≡ size (digits (take 4 (drop i l))) * size (digits (take i l)) =
-    ap (λ t. size (digits t)) (take-add i 4 l)
-    ∙ ap size (reverse-append (take i l) (take 4 (drop i l)))
-    ∙ size-append (digits (take 4 (drop i l))) (digits (take i l)) in
-    record { count = h; whole = mul-comm p q ∙ ap₂ (λ x y. x * y) e (so .whole) ∙ sym parts; limit = small }
+pub few-fit : (i : ℕ) → i ≤ 8 → 255 ^ i < 2 ^ 64
+few-fit i h = let t : 255 ^ i ≤ 255 ^ 8 = pow-le-pow-right (omega arith) h in omega arith
 
 -- ---- product_of
-pub product-more : (l : List ℕ) (i m p q : ℕ)
-    → i < length l
-    → m ≡ getD l i 0
-    → Taken l p i
-    → productAs (m * p) ≡ Within q
-    → Taken l q (i + 1)
-product-more l i m p q h e so w =
-    let said = within-says (m * p) q w in
-    record { count = omega arith; whole = said .0 ∙ size-more l i m p h e (so .whole); limit = said .1 }
+-- p is the product of the slowest i radices, and within 2^62; the others are so many times eight
+pub record Taken (l : List ℕ) (p i : ℕ) : Type 0 where
+  pub count : i ≤ length l
+  pub eights : (length l - i) % 8 ≡ 0
+  pub whole : p ≡ size (digits (take i l))
+  pub limit : p ≤ 2 ^ 62
 
-pub product-over : (l : List ℕ) (i m p : ℕ)
-    → allFrom 1 (digits l) ≡ true
-    → i < length l
-    → m ≡ getD l i 0
+pub taken-first : (l : List ℕ) (p : ℕ)
+    → let i = length l % 8 in
+    p ≡ size (digits (take i l))
+    → p ≤ 255 ^ length (take i l)
     → Taken l p i
-    → productAs (m * p) ≡ Over
-    → Over ≡ productAs (size (digits l))
-product-over l i m p least h e so o =
-    let large = over-says (m * p) o in
-    let more = size-more l i m p h e (so .whole) in
-    let rest = size-taken l (i + 1) least in
-    over (size (digits l)) (omega arith)
+taken-first l p e h =
+    let i = length l % 8 in
+    let long = length-take i l in
+    let few : length (take i l) ≤ 7 = omega arith in
+    let t : 255 ^ length (take i l) ≤ 255 ^ 7 = pow-le-pow-right (omega arith) few in
+    record { count = omega arith; eights = omega arith; whole = e; limit = omega arith }
 
-pub size-all : (l : List ℕ) (i p : ℕ) → length l ≤ i → Taken l p i → Within p ≡ productAs (size (digits l))
-size-all l i p h so = within p (so .limit) ∙ ap productAs (so .whole ∙ ap (λ t. size (digits t)) (take-all i l h))
+module _ (l : List ℕ) (p q i : ℕ) (so : Taken l p i) (more : i < length l) where
+  pub eight-more : i + 8 ≤ length l
+  eight-more = let t = so .eights in omega arith
+
+  module _ (next : q ≡ size (digits (take (i + 8 - i) (drop i l)))) where
+    multiplied : p * q ≡ size (digits (take (i + 8) l))
+    multiplied =
+        let eight : i + 8 - i ≡ 8 = omega arith in
+        let parts : digits (take (i + 8) l) ≡ digits (take 8 (drop i l)) ++ digits (take i l) =
+        ap digits (take-add i 8 l) ∙ reverse-append (take i l) (take 8 (drop i l)) in
+        mul-comm p q
+        ∙ ap₂ (λ (x y : ℕ). x * y) (next ∙ ap (λ k. size (digits (take k (drop i l)))) eight) (so .whole)
+        ∙ sym (ap size parts ∙ size-append (digits (take 8 (drop i l))) (digits (take i l)))
+
+    pub taken-more : (r : ℕ) → productAs (p * q) ≡ Within r → Taken l r (i + 8)
+    taken-more r w =
+        let said = within-says (p * q) r w in
+        let t = so .eights in
+        record { count = eight-more; eights = omega arith; whole = said .0 ∙ multiplied; limit = said .1 }
+
+    pub taken-over : productAs (p * q) ≡ Over → allFrom 1 (digits l) ≡ true → 2 ^ 62 < size (digits l)
+    taken-over o least =
+        let large = over-says (p * q) o in
+        let part = size-taken l (i + 8) least in
+        let same = multiplied in
+        omega arith
+
+pub taken-all : (l : List ℕ) (p i : ℕ) → Taken l p i → length l ≤ i → (p ≡ size (digits l)) × (p ≤ 2 ^ 62)
+taken-all l p i so h = (so .whole ∙ ap (λ t. size (digits t)) (take-all i l h), so .limit)
 
 -- ---- size
 module _ (l : List ℕ) where
@@ -176,107 +154,202 @@ module _ (l : List ℕ) where
   unfolding sizeCall
   count-refused e = sym (lowest-fault-is-given (digits l) (count (sym same-count ∙ e)) (given (size (digits l))))
 
-  pub radix-refused : (eqb (length l) 0 || ltb 48 (length l)) ≡ false → allFrom 1 (digits l) ≡ false → refused 3 ≡ sizeCall l
-  unfolding sizeCall
-  radix-refused e f = sym (lowest-fault-is-given (digits l) (radix (sym same-count ∙ e) (ap not f)) (given (size (digits l))))
+  module _ (counted : (eqb (length l) 0 || ltb 48 (length l)) ≡ false) where
+    pub radix-refused : allFrom 1 (digits l) ≡ false → refused 3 ≡ sizeCall l
+    unfolding sizeCall
+    radix-refused f = sym (lowest-fault-is-given (digits l) (radix (sym same-count ∙ counted) (ap not f)) (given (size (digits l))))
 
-  pub size-refused : (eqb (length l) 0 || ltb 48 (length l)) ≡ false
-      → allFrom 1 (digits l) ≡ true
-      → productAs (size (digits l)) ≡ Over
-      → refused 4 ≡ sizeCall l
-  unfolding sizeCall
-  size-refused e f o =
-      let over = lt-ltb (2 ^ 62) (size (digits l)) (over-says (size (digits l)) o) in
-      sym (lowest-fault-is-given (digits l) (many (sym same-count ∙ e) (ap not f) over) (given (size (digits l))))
+    module _ (r : Product) (made : Multiplied l r) where
+      -- a product that is 0 has a radix that is 0, and one that is not has none
+      pub zero-refused : (n : ℕ) → r ≡ Within n → n ≡ 0 → refused 3 ≡ sizeCall l
+      zero-refused n e nil = radix-refused (go (allFrom 1 (digits l)) refl)
+        where
+          go : (b : Bool) → allFrom 1 (digits l) ≡ b → allFrom 1 (digits l) ≡ false
+          go true f = let some = size-pos (digits l) f in let same = subst (Multiplied l) e made .0 in absurd (omega arith)
+          go false f = f
 
-  pub size-given : (n : ℕ)
-      → (eqb (length l) 0 || ltb 48 (length l)) ≡ false
-      → allFrom 1 (digits l) ≡ true
-      → productAs (size (digits l)) ≡ Within n
-      → given n ≡ sizeCall l
-  unfolding sizeCall
-  size-given n e f w =
-      let said = within-says (size (digits l)) n w in
-      let small = le-ltb (2 ^ 62) (size (digits l)) (omega arith) in
-      ap given (said .0) ∙ sym (lowest-fault-is-given (digits l) (none (sym same-count ∙ e) (ap not f) small) (given (size (digits l))))
+      pub size-refused : r ≡ Over → allFrom 1 (digits l) ≡ true → refused 4 ≡ sizeCall l
+      unfolding sizeCall
+      size-refused e f =
+          let over = lt-ltb (2 ^ 62) (size (digits l)) (subst (Multiplied l) e made f) in
+          sym (lowest-fault-is-given (digits l) (many (sym same-count ∙ counted) (ap not f) over) (given (size (digits l))))
 
--- ---- all_below
-pub below-more : (l w : List ℕ) (i : ℕ) (ok : Bool)
-    → i < length l
-    → length w ≡ length l
-    → ok ≡ isWord (digits (take i l)) (digits (take i w))
-    → ltb (getD w i 0) (getD l i 0) && ok ≡ isWord (digits (take (i + 1) l)) (digits (take (i + 1) w))
-unfolding isWord
-below-more l w i ok h same e =
-    rw (digits-more l i h, digits-more w i (omega arith)) (ap (λ t. ltb (getD w i 0) (getD l i 0) && t) e)
+      pub size-given : (n : ℕ) → r ≡ Within n → (n ≡ 0 → ⊥) → given n ≡ sizeCall l
+      unfolding sizeCall
+      size-given n e some =
+          let (same, within) = subst (Multiplied l) e made in
+          let small = le-ltb (2 ^ 62) (size (digits l)) (omega arith) in
+          ap given same
+          ∙ sym (lowest-fault-is-given (digits l) (none (sym same-count ∙ counted) (ap not (go (allFrom 1 (digits l)) refl)) small) (given (size (digits l))))
+        where
+          go : (b : Bool) → allFrom 1 (digits l) ≡ b → allFrom 1 (digits l) ≡ true
+          go true f = f
+          go false f = absurd (some (subst (Multiplied l) e made .0 ∙ size-none (digits l) f))
 
-pub below-all : (l w : List ℕ) (i : ℕ) (ok : Bool)
-    → length l ≤ i
-    → length w ≡ length l
-    → ok ≡ isWord (digits (take i l)) (digits (take i w))
-    → ok ≡ isWord (digits l) (digits w)
-below-all l w i ok h same e = e ∙ ap₂ (λ t u. isWord (digits t) (digits u)) (take-all i l h) (take-all i w (omega arith))
+-- ---- digit_at and pair_at
+pub digit-below : (m a : ℕ) → a < m → Below m a ≡ digitAs m a
+digit-below m a h = rw (lt-ltb a m h)
 
--- ---- rank_from
-module _ (l w : List ℕ) (one : isWord (digits l) (digits w) ≡ true) where
-  pub rank-more : (i p m a b : ℕ)
-      → i < length l
-      → m ≡ getD l i 0
-      → a ≡ getD w i 0
-      → p ≡ rank (digits (take i l)) (digits (take i w))
-      → b ≡ reflect m p a
-      → p * m + b ≡ rank (digits (take (i + 1) l)) (digits (take (i + 1) w))
-  unfolding rank
-  rank-more i p m a b h em ea ep eb =
-      let long = word-long l w one in
-      rw (digits-more l i h, digits-more w i (omega arith), eb, em, ea, ep)
+pub digit-wrong : (m a : ℕ) → m ≤ a → Wrong ≡ digitAs m a
+digit-wrong m a h = rw (le-ltb a m h)
 
-  -- a rank of the slowest digits is below N, so nothing overflows
-  pub rank-small : (i : ℕ)
-      → allFrom 1 (digits l) ≡ true
-      → size (digits l) ≤ 2 ^ 62
-      → rank (digits (take i l)) (digits (take i w)) < 2 ^ 62
-  rank-small i least limit =
-      let below = rank-below (digits (take i l)) (digits (take i w)) (isWord-taken l w i one) in
-      let part = size-taken l i least in
-      omega arith
-
-  pub rank-all : (i p : ℕ) → length l ≤ i → p ≡ rank (digits (take i l)) (digits (take i w)) → p ≡ rank (digits l) (digits w)
-  rank-all i p h e =
-      let long = word-long l w one in
-      e ∙ ap₂ (λ t u. rank (digits t) (digits u)) (take-all i l h) (take-all i w (omega arith))
-
--- ---- check_word and rank
-pub no-word : (l w : List ℕ) → (length w ≡ length l → ⊥) → isWord (digits l) (digits w) ≡ false
-no-word l w n = go (isWord (digits l) (digits w)) refl
+below-says : (m a x y : ℕ) → digitAs m a ≡ Below x y → (x ≡ m) × (y ≡ a) × (a < m)
+below-says m a x y e = go (ltb a m) refl
   where
-    go : (b : Bool) → isWord (digits l) (digits w) ≡ b → isWord (digits l) (digits w) ≡ false
-    go true e = absurd (n (word-long l w e))
-    go false e = e
+    go : (b : Bool) → ltb a m ≡ b → (x ≡ m) × (y ≡ a) × (a < m)
+    go true t = (cc, cc, ltb-true a m t)
+    go false t = impossible (cc)
 
-pub fine-says : (b : Bool) → checkedAs b ≡ Fine → b ≡ true
-fine-says true e = refl
-fine-says false e = impossible (cc)
+wrong-says : (m a : ℕ) → digitAs m a ≡ Wrong → ltb a m ≡ false
+wrong-says m a e = go (ltb a m) refl
+  where
+    go : (b : Bool) → ltb a m ≡ b → ltb a m ≡ false
+    go true t = impossible (cc)
+    go false t = t
 
-refused-says : (b : Bool) (k : ℕ) → checkedAs b ≡ CheckRefused k → (b ≡ false) × (8 ≡ k)
-refused-says true k e = impossible (cc)
-refused-says false k e = (refl, cc)
+module _ (l w : List ℕ) (i : ℕ) where
+  pub slow-wrong : digitAs (getD l i 0) (getD w i 0) ≡ Wrong → Wrong ≡ pairAs l w i
+  slow-wrong e = rw (wrong-says (getD l i 0) (getD w i 0) e)
 
+  pub fast-wrong : digitAs (getD l (i + 1) 0) (getD w (i + 1) 0) ≡ Wrong → Wrong ≡ pairAs l w i
+  fast-wrong e = rw (wrong-says (getD l (i + 1) 0) (getD w (i + 1) 0) e, and-false (ltb (getD w i 0) (getD l i 0)))
+
+  module _ (m a k b : ℕ)
+      (slow : digitAs (getD l i 0) (getD w i 0) ≡ Below m a)
+      (fast : digitAs (getD l (i + 1) 0) (getD w (i + 1) 0) ≡ Below k b) where
+    pub fast-below : b < k
+    fast-below = let (e, f, h) = below-says (getD l (i + 1) 0) (getD w (i + 1) 0) k b fast in omega arith
+
+    pub two-fit : getD l i 0 < 256 → getD l (i + 1) 0 < 256 → (m * k < 2 ^ 16) × (a * k + reflect k a b < 2 ^ 16)
+    two-fit g h =
+        let (d, e, below) = below-says (getD l i 0) (getD w i 0) m a slow in
+        let (f, _, _) = below-says (getD l (i + 1) 0) (getD w (i + 1) 0) k b fast in
+        let high : m ≤ 255 = omega arith in
+        let low : k ≤ 255 = omega arith in
+        let t = mul-le-mul high low in
+        let r = two-below m a k b (omega arith) fast-below in
+        (omega arith, omega arith)
+
+    pub two-given : (r : ℕ) → r ≡ reflect k a b → Below (m * k) (a * k + r) ≡ pairAs l w i
+    two-given r same =
+        let (d, e, slower) = below-says (getD l i 0) (getD w i 0) m a slow in
+        let (f, g, faster) = below-says (getD l (i + 1) 0) (getD w (i + 1) 0) k b fast in
+        rw (lt-ltb (getD w i 0) (getD l i 0) slower, lt-ltb (getD w (i + 1) 0) (getD l (i + 1) 0) faster, same, d, e, f, g)
+
+-- ---- place_of
+-- the slowest i bytes are digits below their radices, and p is their rank; the others are so many times two
+pub record RankedTo (l w : List ℕ) (i p : ℕ) : Type 0 where
+  pub count : i ≤ length l
+  pub pairs : (length l - i) % 2 ≡ 0
+  pub one : isWord (digits (take i l)) (digits (take i w)) ≡ true
+  pub whole : p ≡ rank (digits (take i l)) (digits (take i w))
+
+two-says : (m a k b x y : ℕ)
+    → twoAs m a k b ≡ Below x y
+    → (ltb a m ≡ true) × (ltb b k ≡ true) × (x ≡ m * k) × (y ≡ a * k + reflect k a b)
+two-says m a k b x y e = go (ltb a m) (ltb b k) refl refl
+  where
+    go : (s t : Bool) → ltb a m ≡ s → ltb b k ≡ t
+        → (ltb a m ≡ true) × (ltb b k ≡ true) × (x ≡ m * k) × (y ≡ a * k + reflect k a b)
+    go true true f g = (f, g, cc, cc)
+    go true false f g = impossible (cc)
+    go false t f g = impossible (cc)
+
+pub ranked-none : (l w : List ℕ) (i p : ℕ) → i ≡ 0 → p ≡ 0 → length l % 2 ≡ i → RankedTo l w i p
+unfolding isWord rank
+ranked-none l w i p e f g = rw (e, f) (record { count = omega arith; pairs = omega arith; one = refl; whole = refl })
+
+module _ (l w : List ℕ) (same : length w ≡ length l) where
+  -- one digit more
+  pub ranked-first : (i p m : ℕ) → i ≡ 1 → length l % 2 ≡ i → digitAs (getD l 0 0) (getD w 0 0) ≡ Below m p → RankedTo l w i p
+  unfolding isWord rank
+  ranked-first i p m e odd first =
+      let (f, g, below) = below-says (getD l 0 0) (getD w 0 0) m p first in
+      let some : 0 < length l = omega arith in
+      let one = below-more l w same 0 true some refl in
+      let whole = rank-more l w same 0 0 m p p some f g refl refl in
+      let alone : 0 * m + p ≡ p = omega arith in
+      rw
+      e
+      (record {
+        count = omega arith;
+        pairs = omega arith;
+        one = sym one ∙ ap (λ t. t && true) (lt-ltb (getD w 0 0) (getD l 0 0) below);
+        whole = sym alone ∙ whole;
+      })
+
+  -- two digits more
+  module _ (i p x y : ℕ) (so : RankedTo l w i p) (more : i < length l) where
+    pub pair-more : i + 1 < length l
+    pair-more = let t = so .pairs in omega arith
+
+    module _ (pair : pairAs l w i ≡ Below x y) where
+      told : (ltb (getD w i 0) (getD l i 0) ≡ true) × (ltb (getD w (i + 1) 0) (getD l (i + 1) 0) ≡ true)
+          × (x ≡ getD l i 0 * getD l (i + 1) 0)
+          × (y ≡ getD w i 0 * getD l (i + 1) 0 + reflect (getD l (i + 1) 0) (getD w i 0) (getD w (i + 1) 0))
+      told = two-says (getD l i 0) (getD w i 0) (getD l (i + 1) 0) (getD w (i + 1) 0) x y pair
+
+      pub pair-below : y < x
+      pair-below =
+          let (slow, fast, f, g) = told in
+          rw (f, g) (two-below _ _ _ _ (ltb-true _ _ slow) (ltb-true _ _ fast))
+
+      pub ranked-pair : (b : ℕ) → b ≡ reflect x p y → RankedTo l w (i + 2) (p * x + b)
+      ranked-pair b e =
+          let (slow, fast, f, g) = told in
+          let t = so .pairs in
+          let two : i + 1 + 1 ≡ i + 2 = omega arith in
+          let one = sym (ap (λ t. t && true) slow) ∙ below-more l w same i true more (sym (so .one)) in
+          let both = sym (ap (λ t. t && true) fast) ∙ below-more l w same (i + 1) true pair-more one in
+          let first = rank-more l w same i p _ _ _ more refl refl (so .whole) refl in
+          let second = rank-more l w same (i + 1) _ _ _ _ pair-more refl refl first refl in
+          record {
+            count = omega arith;
+            pairs = omega arith;
+            one = rw (sym two) (sym both);
+            whole = rw (sym two, e, f, g) (sym (two-as-one p _ _ _ _ (ltb-true _ _ slow) (ltb-true _ _ fast)) ∙ second);
+          }
+
+  pub pair-wrong : (i : ℕ) → i + 1 < length l → pairAs l w i ≡ Wrong → isWord (digits l) (digits w) ≡ false
+  pair-wrong i h e = go (ltb (getD w i 0) (getD l i 0)) (ltb (getD w (i + 1) 0) (getD l (i + 1) 0)) refl refl
+    where
+      go : (s t : Bool) → ltb (getD w i 0) (getD l i 0) ≡ s → ltb (getD w (i + 1) 0) (getD l (i + 1) 0) ≡ t → isWord (digits l) (digits w) ≡ false
+      go true true f g = impossible (cc)
+      go true false f g = not-below l w (i + 1) h (ltb-false _ _ g)
+      go false t f g = not-below l w i (omega arith) (ltb-false _ _ f)
+
+  pub ranked-all : (i p : ℕ) → RankedTo l w i p → length l ≤ i → At p ≡ placeAs l w
+  ranked-all i p so h =
+      let one = below-all l w same i true h (sym (so .one)) in
+      rw (sym one) (ap At (rank-all l w same i p h (so .whole)))
+
+pub no-place : (l w : List ℕ) → isWord (digits l) (digits w) ≡ false → Nowhere ≡ placeAs l w
+no-place l w e = rw e
+
+pub wrong-over : (m a : ℕ) → digitAs m a ≡ Wrong → m ≤ a
+wrong-over m a e = ltb-false a m (wrong-says m a e)
+
+-- ---- rank
 module _ (l w : List ℕ) (n : ℕ) (size-is : sizeCall l ≡ given n) where
-  pub word-refused : (o : Checked) (x number : ℕ)
-      → o ≡ checkedAs (isWord (digits l) (digits w))
-      → o ≡ CheckRefused x
-      → number ≡ checkNumber o
-      → refused number ≡ rankCall l w
+  pub word-refused : isWord (digits l) (digits w) ≡ false → refused 8 ≡ rankCall l w
   unfolding rankCall
-  word-refused o x number e f g =
-      let said = refused-says (isWord (digits l) (digits w)) x (sym e ∙ f) in
-      let same : number ≡ 8 = g ∙ ap checkNumber f ∙ sym (said .1) in
-      ap refused same ∙ sym (radices-accepted l n _ size-is ∙ rw (said .0))
+  word-refused e = sym (radices-accepted l n _ size-is ∙ rw e)
 
-  pub rank-given : isWord (digits l) (digits w) ≡ true → given (rank (digits l) (digits w)) ≡ rankCall l w
-  unfolding rankCall
-  rank-given e = sym (radices-accepted l n _ size-is ∙ rw e)
+  module _ (r : Place) (found : r ≡ placeAs l w) where
+    pub nowhere-refused : r ≡ Nowhere → refused 8 ≡ rankCall l w
+    nowhere-refused e = word-refused (go (isWord (digits l) (digits w)) refl)
+      where
+        go : (b : Bool) → isWord (digits l) (digits w) ≡ b → isWord (digits l) (digits w) ≡ false
+        go true f = impossible (cc)
+        go false f = f
+
+    pub rank-given : (p : ℕ) → r ≡ At p → given p ≡ rankCall l w
+    unfolding rankCall
+    rank-given p e = go (isWord (digits l) (digits w)) refl
+      where
+        go : (b : Bool) → isWord (digits l) (digits w) ≡ b → given p ≡ rankCall l w
+        go true f = sym (radices-accepted l n _ size-is ∙ rw f (cc))
+        go false f = impossible (cc)
 
 -- ---- put_word
 drop-stored : (out : List ℕ) (i a : ℕ) → i < length out → drop i (set out i a) ≡ a ∷ drop (suc i) out

@@ -4,13 +4,13 @@
 ghost use mathlib.Core.Path.{_≡_};
 ghost use mathlib.Core.Bool.{true};
 ghost use Prim.Native.Nat.{_+_, _^_, _*_, _≤_, _<_};
-ghost use lib.ListN.{length, take, drop};
+ghost use lib.ListN.{length, getD};
 ghost use Rattle.gray_theory.specs.Answers.{numberOf, Wrote};
 ghost use Rattle.gray_theory.specs.Radices.{digits, size as sizeOf, allFrom};
-ghost use Rattle.gray_theory.specs.Words.{reflect as reflected, isWord, rank as rankOf};
+ghost use Rattle.gray_theory.specs.Words.{reflect as reflected};
 ghost use Rattle.gray_theory.specs.Calls.{sizeCall, surveyCall, rankCall, wordCall};
 ghost use Rattle.gray.specs.Enums.{countedAs, rankedAs, writtenAs, openingAs};
-ghost use Rattle.gray.specs.Stages.{productAs, Taken, checkedAs, checkNumber, Rankable, Room, putWord};
+ghost use Rattle.gray.specs.Stages.{productAs, Multiplied, digitAs, pairAs, Rankable, placeAs, Room, putWord};
 
 // What `size` answers: N, the number of words (settings) of a mixed-radix system (a survey).
 pub enum Counted {
@@ -59,16 +59,16 @@ enum Product {
     Over,
 }
 
-// The product of the radices that are taken so far, and how many these are.
-struct Part {
-    product: u64,
-    taken: usize,
+// A digit that is below its radix, after the radix; or one that is not.
+enum Digit {
+    Below(u64, u64),
+    Wrong,
 }
 
-// Whether a word passes its check.
-enum Checked {
-    Fine,
-    Refused(u8),
+// The rank of what is a word; or nothing.
+enum Place {
+    At(u64),
+    Nowhere,
 }
 
 // The most digits of a word (sluices of a survey), and the most places of a work-ahead buffer.
@@ -77,12 +77,6 @@ pub const DIGITS: usize = 48;
 pub const CAPACITY: usize = 32;
 
 const LIMIT: u64 = 0x4000_0000_0000_0000;
-
-// Up to here any radix leaves the product within the limit, and the division is spared.
-const SMALL: u64 = 0x0040_0000_0000_0000;
-
-// Up to here any four radices do, since their product is below 2^32.
-const SMALL_FOR_FOUR: u64 = 0x4000_0000;
 
 impl Counted {
     // The refusal's number, for a caller to pass on; 0 where there is none.
@@ -120,17 +114,6 @@ impl Opening {
     }
 }
 
-impl Checked {
-    fn number(self) -> u8
-        ensures { λ r. ⌜ r ≡ checkNumber self ⌝ }
-    {
-        match self {
-            Checked::Fine => 0,
-            Checked::Refused(k) => k,
-        }
-    }
-}
-
 // The bound spares callers a fact about the byte that they read.
 fn wide(x: u8) -> u64
     ensures { λ r. ⌜ (r ≡ x) × (r < 256) ⌝ }
@@ -151,74 +134,62 @@ fn none_zero(radices: &[u8]) -> bool
     ok
 }
 
-fn times(p: u64, m: u64) -> Product
-    requires { ⌜ (p ≤ 2 ^ 62) × (0 < m) × (m < 256) ⌝ }
-    ensures { λ r. ⌜ r ≡ productAs (m * p) ⌝ }
+// Of at most eight radices, so 64 bits hold it: 255^8 is below 2^64.
+fn product_of_few(radices: &[u8]) -> u64
+    requires { ⌜ length (now radices) ≤ 8 ⌝ }
+    ensures { λ r. ⌜ (r ≡ sizeOf (digits (now (radices .entry)))) × (r ≤ 255 ^ length (now (radices .entry))) ⌝ }
 {
-    if p <= SMALL {
-        return Product::Within(m * p);
-    }
-    if LIMIT / m < p {
-        return Product::Over;
-    }
-    Product::Within(m * p)
-}
-
-fn four(radices: &[u8], i: usize) -> u64
-    requires { ⌜ i + 4 ≤ length (now radices) ⌝ }
-    ensures { λ r. ⌜ (r ≡ sizeOf (digits (take 4 (drop i (now (radices .entry)))))) × (r < 2 ^ 32) ⌝ }
-{
-    (wide(radices[i]) * wide(radices[i + 1])) * (wide(radices[i + 2]) * wide(radices[i + 3]))
-}
-
-// Whether four radices more, whose product is q, surely leave the product p within the limit: it is small, or they are.
-fn surely_within(p: u64, q: u64) -> bool
-    requires { ⌜ q < 2 ^ 32 ⌝ }
-    ensures { λ r. ⌜ (r ≡ true → p * q ≤ 2 ^ 62) ⌝ }
-{
-    (p <= SMALL_FOR_FOUR) | ((p <= SMALL) & (q <= 256))
-}
-
-// Four radices a turn, so that the product so far waits for one multiplication and not for four. It stops where the product
-// might pass the limit.
-fn fours(radices: &[u8]) -> Part
-    ensures { λ r. ⌜ Taken (now (radices .entry)) (r .product) (r .taken) ⌝ }
-{
-    let n = radices.len();
     let mut p: u64 = 1;
     let mut i = 0;
-    while i + 4 <= n {
-        let q = four(radices, i);
-        if !surely_within(p, q) {
-            return Part {
-                product: p,
-                taken: i,
-            };
-        }
-        p = p * q;
-        i += 4;
+    while i < radices.len() {
+        p = wide(radices[i]) * p;
+        i += 1;
     }
-    Part {
-        product: p,
-        taken: i,
-    }
+    p
 }
 
-// The radices that `fours` leaves are taken one a turn, each with the test that tells whether the product is over.
-fn product_of(radices: &[u8]) -> Product
-    requires { ⌜ allFrom 1 (digits (now radices)) ≡ true ⌝ }
-    ensures { λ r. ⌜ r ≡ productAs (sizeOf (digits (now (radices .entry)))) ⌝ }
+// Whether p times q is surely within the limit: they have at most 46 bits and 16, which hold eight radices of 4, or 30 and 32,
+// which hold any four. (At these bounds themselves, a power of two has a bit more.)
+fn surely_within(p: u64, q: u64) -> bool
+    ensures { λ r. ⌜ (r ≡ true → p * q ≤ 2 ^ 62) ⌝ }
 {
-    let part = fours(radices);
-    let mut p = part.product;
-    let mut i = part.taken;
-    while i < radices.len() {
-        let next = times(p, wide(radices[i]));
+    if q <= 0x1_0000 {
+        return p <= 0x4000_0000_0000;
+    }
+    (p <= 0x4000_0000) & (q <= 0x1_0000_0000)
+}
+
+// The division, which is slow, is left to large numbers.
+fn times(p: u64, q: u64) -> Product
+    ensures { λ r. ⌜ r ≡ productAs (p * q) ⌝ }
+{
+    if surely_within(p, q) {
+        return Product::Within(p * q);
+    }
+    if q == 0 {
+        return Product::Within(0);
+    }
+    if LIMIT / q < p {
+        return Product::Over;
+    }
+    Product::Within(p * q)
+}
+
+// Eight radices a turn, with one test for all eight; what is left over by eights comes first. A radix that is 0 makes the
+// product 0, unless it is over before.
+fn product_of(radices: &[u8]) -> Product
+    ensures { λ r. ⌜ Multiplied (now (radices .entry)) r ⌝ }
+{
+    let n = radices.len();
+    let mut i = n % 8;
+    let mut p = product_of_few(&radices[..i]);
+    while i < n {
+        let next = times(p, product_of_few(&radices[i..i + 8]));
         let Product::Within(q) = next else {
             return Product::Over;
         };
         p = q;
-        i += 1;
+        i += 8;
     }
     Product::Within(p)
 }
@@ -231,13 +202,16 @@ pub fn size(radices: &[u8]) -> Counted
     if (n == 0) | (DIGITS < n) {
         return Counted::Refused(2);
     }
-    if !none_zero(radices) {
-        return Counted::Refused(3);
-    }
     let whole = product_of(radices);
     let Product::Within(total) = whole else {
-        return Counted::Refused(4);
+        if none_zero(radices) {
+            return Counted::Refused(4);
+        }
+        return Counted::Refused(3);
     };
+    if total == 0 {
+        return Counted::Refused(3);
+    }
     Counted::Size(total)
 }
 
@@ -263,50 +237,63 @@ fn reflect(m: u64, p: u64, a: u64) -> u64
     if p % 2 == 0 { a } else { m - 1 - a }
 }
 
-fn all_below(radices: &[u8], word: &[u8]) -> bool
-    requires { ⌜ length (now word) ≡ length (now radices) ⌝ }
-    ensures { λ r. ⌜ r ≡ isWord (digits (now (radices .entry))) (digits (now (word .entry))) ⌝ }
+fn digit_at(radices: &[u8], word: &[u8], i: usize) -> Digit
+    requires { ⌜ (i < length (now radices)) × (i < length (now word)) ⌝ }
+    ensures { λ r. ⌜ (r ≡ digitAs (getD (now (radices .entry)) i 0) (getD (now (word .entry)) i 0)) × (getD (now (radices .entry)) i 0 < 256) ⌝ }
 {
-    let mut ok = true;
-    let mut i = 0;
-    while i < radices.len() {
-        ok = (word[i] < radices[i]) & ok;
-        i += 1;
+    let radix = wide(radices[i]);
+    let digit = wide(word[i]);
+    if radix <= digit {
+        return Digit::Wrong;
     }
-    ok
+    Digit::Below(radix, digit)
 }
 
-// Refusal 8 of a word (a setting).
-fn check_word(radices: &[u8], word: &[u8]) -> Checked
-    ensures { λ r. ⌜ r ≡ checkedAs (isWord (digits (now (radices .entry))) (digits (now (word .entry)))) ⌝ }
+// Two digits as one: its radix is the product of theirs, and it is their rank among themselves.
+fn pair_at(radices: &[u8], word: &[u8], i: usize) -> Digit
+    requires { ⌜ (i + 1 < length (now radices)) × (i + 1 < length (now word)) ⌝ }
+    ensures { λ r. ⌜ r ≡ pairAs (now (radices .entry)) (now (word .entry)) i ⌝ }
 {
-    if word.len() != radices.len() {
-        return Checked::Refused(8);
-    }
-    if all_below(radices, word) {
-        Checked::Fine
-    } else {
-        Checked::Refused(8)
-    }
+    let slow = digit_at(radices, word, i);
+    let Digit::Below(m, a) = slow else {
+        return Digit::Wrong;
+    };
+    let fast = digit_at(radices, word, i + 1);
+    let Digit::Below(l, b) = fast else {
+        return Digit::Wrong;
+    };
+    Digit::Below(m * l, a * l + reflect(l, a, b))
 }
 
-fn rank_from(radices: &[u8], word: &[u8]) -> u64
+// One pass over the word: each digit is read once, tested and ranked at once. They are taken two a turn, as one, so that the
+// rank so far waits for one multiplication and not for two; if they are odd in number, the slowest comes first, alone. (It
+// answers no `Ranked`: the compiler would note in each turn that this may be a refusal, which costs a sixth of the time.)
+fn place_of(radices: &[u8], word: &[u8]) -> Place
     requires { ⌜ Rankable (now radices) (now word) ⌝ }
-    ensures { λ r. ⌜ r ≡ rankOf (digits (now (radices .entry))) (digits (now (word .entry))) ⌝ }
+    ensures { λ r. ⌜ r ≡ placeAs (now (radices .entry)) (now (word .entry)) ⌝ }
 {
+    let n = radices.len();
     let mut p: u64 = 0;
-    let mut i = 0;
-    while i < radices.len() {
-        let m = wide(radices[i]);
-        let a = wide(word[i]);
-        let b = reflect(m, p, a);
-        p = p * m + b;
-        i += 1;
+    let mut i = n % 2;
+    if i == 1 {
+        let first = digit_at(radices, word, 0);
+        let Digit::Below(_, a) = first else {
+            return Place::Nowhere;
+        };
+        p = a;
     }
-    p
+    while i < n {
+        let next = pair_at(radices, word, i);
+        let Digit::Below(m, a) = next else {
+            return Place::Nowhere;
+        };
+        p = p * m + reflect(m, p, a);
+        i += 2;
+    }
+    Place::At(p)
 }
 
-// The rank of a word: first it is tested, then ranked.
+// The rank of a word (a setting).
 pub fn rank(radices: &[u8], word: &[u8]) -> Ranked
     ensures { λ r. ⌜ rankedAs r ≡ rankCall (now (radices .entry)) (now (word .entry)) ⌝ }
 {
@@ -314,11 +301,14 @@ pub fn rank(radices: &[u8], word: &[u8]) -> Ranked
     let Counted::Size(_) = counted else {
         return Ranked::Refused(counted.number());
     };
-    let tested = check_word(radices, word);
-    let Checked::Fine = tested else {
-        return Ranked::Refused(tested.number());
+    if word.len() != radices.len() {
+        return Ranked::Refused(8);
+    }
+    let place = place_of(radices, word);
+    let Place::At(p) = place else {
+        return Ranked::Refused(8);
     };
-    Ranked::Rank(rank_from(radices, word))
+    Ranked::Rank(p)
 }
 
 // The digits from the fastest on: each is a remainder, and the quotient is the rank of the slower ones.

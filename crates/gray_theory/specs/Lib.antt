@@ -36,6 +36,7 @@ pub mod Bools
 pub mod Sizes
 pub mod Increments
 pub mod Digits
+pub mod Ranking
 pub mod Reversals
 pub mod Refusals
 pub mod DigitRanges

@@ -1,14 +1,15 @@
 -- Laws of radices and their product, with digit 1 first.
 use Prim.Native.Nat.{ℕ, zero, suc, _*_, _/_, _≤_, _<_}
-use native.Mathlib.Nat.{div-lt-iff-lt-mul, mul-assoc, mul-comm, mul-pos, one-mul}
+use native.Mathlib.Nat.{div-lt-iff-lt-mul, mul-assoc, mul-comm, mul-pos, mul-zero, one-mul, zero-mul}
 use native.Mathlib.Omega.{arith}
 use mathlib.Core.Path.{_≡_, refl, sym, ap, _∙_}
-use mathlib.Core.Bool.{true, _&&_, and-eq-true-iff, and-assoc}
+use mathlib.Core.Bool.{Bool, true, false, _&&_, and-eq-true-iff, and-assoc}
 use mathlib.Core.List.{List, [], _∷_, _++_}
-use borrow.Author.Tests.{leb-true, le-leb}
+use borrow.Author.Tests.{leb-true, leb-false, le-leb}
 use lib.Dec.{leb}
 use lib.ListN.{length, getD, take}
 use Rattle.gray_theory.specs.Radices.{size, allFrom}
+use Rattle.gray_theory.specs.Bools.{impossible}
 
 -- ---- radices that are large enough
 pub allFrom-append : (k : ℕ) (a b : List ℕ) → allFrom k (a ++ b) ≡ allFrom k a && allFrom k b
@@ -56,6 +57,16 @@ size-pos [] e = omega arith
 size-pos (m ∷ ms) e =
     let (first, others) = and-eq-true-iff (leb 1 m) (allFrom 1 ms) .0 e in
     mul-pos (leb-true 1 m first) (size-pos ms others)
+
+-- a radix that is 0 makes it 0
+pub size-none : (ms : List ℕ) → allFrom 1 ms ≡ false → size ms ≡ 0
+unfolding allFrom size
+size-none [] e = impossible (cc)
+size-none (m ∷ ms) e = go (leb 1 m) refl (λ f. size-none ms f)
+  where
+    go : (b : Bool) → leb 1 m ≡ b → (allFrom 1 ms ≡ false → size ms ≡ 0) → m * size ms ≡ 0
+    go true t rest = ap (λ (n : ℕ). m * n) (rest (ap (λ b. b && allFrom 1 ms) (sym t) ∙ e)) ∙ mul-zero m
+    go false t rest = let none : m ≡ 0 = let u = leb-false 1 m t in omega arith in rw none (zero-mul (size ms))
 
 -- a factor of a product that is above something is not 0
 pub pos-of-lt-mul : (i n m : ℕ) → i < n * m → 0 < m

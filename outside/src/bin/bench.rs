@@ -13,14 +13,19 @@
 //!
 //! Of each form of Algorithm H there are two programs, by cc and by clang, and in each row the better one counts.
 //!
+//! Of ranks there is a second proved library, which tests a setting in one pass and ranks it in another: two passes.
+//!
 //! Of tides there are several plain programs, and each row names its own: lines are read byte by byte, in the ordinary way, or
 //! on words of eight bytes; counts are gathered in memory of its own and copied out, or written in a second pass.
 use outside::capi::{self, Answer};
 use outside::chance::Chance;
+use outside::clock::time;
 use outside::plain::algorithm_h::{AlgorithmH, Form, LITERAL, TUNED};
 use outside::plain::{disks, list, log, tides, walk, words};
 use outside::run::Run;
 use outside::second::tides::{line, minutes_of_century, Tide, Water};
+use outside::tables::{best, ratio, Survey};
+use outside::two_pass;
 use std::hint::black_box;
 use std::process::{Command, ExitCode};
 use std::time::Duration;
@@ -40,55 +45,8 @@ const SHORT_CALLS: usize = 64;
 /// Bytes of a line of tides.
 const LINE: usize = 19;
 
-/// Twenty counts from 2 to 12, and twenty odd ones for the disk engine.
-const MIXED: [u8; 20] = [7, 2, 12, 5, 3, 9, 2, 10, 4, 6, 8, 3, 11, 5, 4, 7, 6, 10, 9, 8];
+/// Twenty odd counts, for the disk engine.
 const MIXED_ODD: [u8; 20] = [7, 3, 11, 5, 9, 3, 7, 11, 9, 5, 5, 11, 3, 9, 7, 9, 7, 3, 5, 11];
-
-struct Survey {
-    name: String,
-    radices: Vec<u8>,
-}
-
-impl Survey {
-    fn equal(n: usize, m: u8) -> Survey {
-        Survey {
-            name: format!("{n} of {m}"),
-            radices: vec![m; n],
-        }
-    }
-
-    /// So many that move, and locked ones spread evenly among them.
-    fn locked(n: usize, m: u8, locked: usize) -> Survey {
-        let every = (n + locked) / locked;
-        Survey {
-            name: format!("{n} of {m} and {locked} locked"),
-            radices: (1..=n + locked).map(|i| if i % every == 0 { 1 } else { m }).collect(),
-        }
-    }
-
-    fn mixed(name: &str, radices: &[u8]) -> Survey {
-        Survey {
-            name: name.into(),
-            radices: radices.into(),
-        }
-    }
-
-    fn size(&self) -> u64 {
-        capi::size(&self.radices).expect("a survey that is accepted")
-    }
-
-    /// The least capacity with which the buffered engine never runs dry: locked sluices need none of it.
-    fn capacity(&self) -> usize {
-        let moving = self.radices.iter().filter(|&&m| m > 1).count();
-        moving.div_ceil(2).max(1)
-    }
-
-    /// Ranks from 0 to `most`, the same in every run of the program.
-    fn ranks(&self, count: usize, most: u64) -> Vec<u64> {
-        let mut chance = Chance::new(count as u64);
-        (0..count).map(|_| chance.below(most + 1)).collect()
-    }
-}
 
 /// Surveys of equal counts, and one of mixed ones.
 fn with_mixed(mixed: Survey) -> Vec<Survey> {
@@ -99,7 +57,7 @@ fn with_mixed(mixed: Survey) -> Vec<Survey> {
 }
 
 fn all_surveys() -> Vec<Survey> {
-    with_mixed(Survey::mixed("20 mixed, 2 to 12", &MIXED))
+    with_mixed(Survey::twenty_mixed())
 }
 
 /// For the buffered engine, one of them with locked sluices.
@@ -187,33 +145,6 @@ type Work<'a> = &'a mut dyn FnMut();
 /// Writes into lent memory, as a side does it.
 type Writer<'a> = &'a dyn Fn(&mut [u8]) -> Answer;
 
-/// The processor time of this thread, so that what other processes take meanwhile is not counted. (std has wall time alone.)
-fn processor_time() -> Duration {
-    #[repr(C)]
-    struct Time {
-        seconds: i64,
-        nanoseconds: i64,
-    }
-    extern "C" {
-        fn clock_gettime(clock: i32, time: *mut Time) -> i32;
-    }
-    const THREAD_ON_LINUX: i32 = 3;
-    let mut time = Time {
-        seconds: 0,
-        nanoseconds: 0,
-    };
-    // The call writes one struct of this layout on 64-bit Linux, and `time` is one.
-    let status = unsafe { clock_gettime(THREAD_ON_LINUX, &mut time) };
-    assert!(status == 0, "no clock of this thread's processor time");
-    Duration::new(time.seconds as u64, time.nanoseconds as u32)
-}
-
-fn time(times: u32, work: &mut dyn FnMut()) -> Duration {
-    let start = processor_time();
-    (0..times).for_each(|_| work());
-    processor_time() - start
-}
-
 impl Bench {
     /// How often a batch has to be repeated for a round. This also warms caches up.
     fn times(&self, work: &mut dyn FnMut()) -> u32 {
@@ -244,11 +175,6 @@ impl Bench {
     }
 }
 
-/// The best round.
-fn best(ns: &[f64]) -> f64 {
-    ns.iter().copied().fold(f64::MAX, f64::min)
-}
-
 /// Of each column the side with the best round.
 fn better(columns: &[Vec<Writer>], taken: Vec<Vec<f64>>) -> Vec<Vec<f64>> {
     let mut taken = taken.into_iter();
@@ -262,14 +188,6 @@ fn print_row(name: &str, unit: &Unit, taken: &[Vec<f64>]) {
     let ratios = taken[1..].iter().map(|plain| ratio(&taken[0], plain));
     let cells: Vec<String> = times.chain(ratios).collect();
     println!("| {name} | {} |", cells.join(" | "));
-}
-
-/// The ratio of each round: the middle one, with the least and the greatest.
-fn ratio(ours: &[f64], plain: &[f64]) -> String {
-    let mut ratios: Vec<f64> = ours.iter().zip(plain).map(|(ours, plain)| ours / plain).collect();
-    ratios.sort_by(f64::total_cmp);
-    let (least, greatest) = (ratios[0], ratios[ratios.len() - 1]);
-    format!("{:.2} ({least:.2} to {greatest:.2})", ratios[ratios.len() / 2])
 }
 
 /// The head of a table: a column for what its rows are of, for each side and for each ratio.
@@ -320,14 +238,14 @@ fn rank_row(bench: &Bench, survey: &Survey) {
     let mut settings = vec![0; CALLS * n];
     for (setting, &rank) in settings.chunks_exact_mut(n).zip(&ranks) {
         words::word(radices, rank, setting).expect("a rank of the list");
-        assert_eq!(
-            (capi::rank(radices, setting), words::rank(radices, setting)),
-            (Ok(rank), Ok(rank))
-        );
+        for answer in [capi::rank, two_pass::rank, words::rank].map(|side| side(radices, setting)) {
+            assert_eq!(answer, Ok(rank));
+        }
     }
     let ours = &mut || batch(capi::rank, radices, &settings);
+    let two_pass = &mut || batch(two_pass::rank, radices, &settings);
     let plain = &mut || batch(words::rank, radices, &settings);
-    bench.row(survey, &NS_A_CALL, CALLS as u64, &mut [ours, plain]);
+    bench.row(survey, &NS_A_CALL, CALLS as u64, &mut [ours, two_pass, plain]);
 }
 
 fn word_row(bench: &Bench, survey: &Survey) {
@@ -633,6 +551,8 @@ enum Rows {
 }
 
 const PLAIN: &[&str] = &["plain Rust"];
+/// The proved rank in two passes, of which the first tests the word: ours does both at once.
+const RANKS: &[&str] = &["two passes", "plain Rust"];
 /// Algorithm H as Knuth describes it, and for long runs the tuned form too.
 const RUNS: &[&str] = &["Algorithm H", "tuned Algorithm H", "plain Rust"];
 const SHORT_ONES: &[&str] = &["Algorithm H", "plain Rust"];
@@ -647,7 +567,7 @@ const TABLES: [Table; 11] = [
     Table {
         name: "rank",
         unit: NS_A_CALL,
-        others: PLAIN,
+        others: RANKS,
         rows: Rows::OfSurveys(all_surveys, rank_row),
     },
     Table {

@@ -7,6 +7,7 @@ use crate::chance::Chance;
 use crate::compare::tides::{damaged, some_tides, text};
 use crate::run::Run;
 use crate::second::{self, buffered, survey};
+use crate::two_pass;
 use std::fmt::Debug;
 
 /// Surveys short enough to be walked, some of them faulty, half of them with locked digits, some with no others.
@@ -64,7 +65,9 @@ fn words_are_alike() {
             let place = chance.between(0, word.len() - 1);
             word[place] = chance.byte(0, 255);
         }
-        assert_eq!(capi::rank(&radices, &word), words::rank(&radices, &word));
+        for rank in [capi::rank, two_pass::rank] {
+            assert_eq!(rank(&radices, &word), words::rank(&radices, &word));
+        }
     }
 }
 

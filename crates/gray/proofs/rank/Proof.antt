@@ -1,32 +1,21 @@
--- `gray::rank` meets its contract: a stage that refuses passes its number on, and what passes every stage has its rank. Assumes
+-- `gray::rank` meets its contract: radices that are refused pass their number on, and what is no word is refused by 8. Assumes
 -- nothing.
 use mathlib.Core.Path.{_≡_, sym, ap, _∙_}
+use borrow.Author.Needs.{needs}
 use Rattle.gray_theory.specs.Answers.{given}
 use Rattle.gray_theory.specs.Calls.{sizeCall, rankCall}
-use Rattle.gray.specs.Enums.{countedAs}
+use Rattle.gray_theory.specs.Ranking.{too-long-or-short}
 use Rattle.gray_theory.specs.Refusals.{accepted}
+use Rattle.gray.specs.Enums.{countedAs}
 use Rattle.gray.specs.Passing.{passed-on}
-use Rattle.gray.specs.Stages.{Rankable}
-use Rattle.gray.proofs.Laws.{fine-says, word-refused, rank-given}
-use borrow.Author.Needs.{needs}
+use Rattle.gray.proofs.Laws.{word-refused, nowhere-refused, rank-given}
 use Rattle.gray.proofs.rank.Statement.{statement}
 use Rattle.gray.proofs.rank.Tie as tie
 
--- what has been learnt once the radices are accepted, and once the word is
-size-is : (c : tie.After-check-word)
-    → sizeCall (c .before .before .before .before .before .before .args .radices .now) ≡ given (c .before .enum-told .given .0 .0)
-size-is c = sym (c .before .before .before .size .ensures) ∙ ap countedAs (c .before .enum-told .given .1)
-
-rankable : (c : tie.After-enum-told3)
-    → let start = c .before .before .before .before .before .before .before .before in
-    Rankable (start .args .radices .now) (start .args .word .now)
-rankable c =
-    let sized = accepted _ _ (size-is (c .before .before)) in
-    record {
-      one = fine-says _ (sym (c .before .before .check-word .ensures) ∙ c .enum-told3 .given .1);
-      least = sized .one;
-      limit = sized .limit;
-    }
+-- what has been learnt once the radices are accepted
+size-is : (c : tie.After-enum-told)
+    → sizeCall (c .before .before .before .before .before .args .radices .now) ≡ given (c .enum-told .given .0 .0)
+size-is c = sym (c .before .before .size .ensures) ∙ ap countedAs (c .enum-told .given .1)
 
 size-requires : tie.Need-size-requires
 size-requires c κs = search needs
@@ -46,29 +35,33 @@ returns c =
     let told = c .before in
     passed-on _ _ _ _ _ (told .before .before .size .ensures) (told .enum-told2 .given .1) (c .number .ensures)
 
-check-word-requires : tie.Need-check-word-requires
-check-word-requires c κs = search needs
+returns-2 : tie.Need-returns-2
+returns-2 c =
+    let start = c .before .before .before .before .before .before in
+    let l = start .args .radices .now in
+    let w = start .args .word .now in
+    word-refused l w _ (size-is (c .before)) (too-long-or-short l w (c .if1 .taken))
+
+place-of-requires : tie.Need-place-of-requires
+place-of-requires c κs =
+    let sized = accepted _ _ (size-is (c .before)) in
+    record { long = c .if1 .left; least = sized .one; limit = sized .limit }
+
+enum-known-place : tie.Need-enum-known-place
+enum-known-place c = search needs
 
 enum-told-3 : tie.Need-enum-told-3
 enum-told-3 c = search needs
 
-enum-told-4 : tie.Need-enum-told-4
-enum-told-4 c = search needs
-
-number-requires-2 : tie.Need-number-requires-2
-number-requires-2 c κs = search needs
-
-returns-2 : tie.Need-returns-2
-returns-2 c =
-    let told = c .before in
-    let tested = told .before .before in
-    word-refused _ _ _ (size-is tested) _ _ _ (tested .check-word .ensures) (told .enum-told4 .given .1) (c .number2 .ensures)
-
-rank-from-requires : tie.Need-rank-from-requires
-rank-from-requires c κs = rankable c
-
 returns-3 : tie.Need-returns-3
-returns-3 c = ap given (c .rank-from .ensures) ∙ rank-given _ _ _ (size-is (c .before .before .before)) (rankable (c .before) .one)
+returns-3 c =
+    let called = c .before .before in
+    nowhere-refused _ _ _ (size-is (called .before .before)) _ (called .place-of .ensures) (c .enum-told3 .given .1)
+
+returns-4 : tie.Need-returns-4
+returns-4 c =
+    let called = c .before .before .before in
+    rank-given _ _ _ (size-is (called .before .before)) _ (called .place-of .ensures) _ (c .before .place .given .1)
 
 pub rank-spec : {M : Type 1} → statement M
 rank-spec =
@@ -79,10 +72,9 @@ rank-spec =
     enum-told-2
     number-requires
     returns
-    check-word-requires
-    enum-told-3
-    enum-told-4
-    number-requires-2
     returns-2
-    rank-from-requires
-    returns-3)
+    place-of-requires
+    enum-known-place
+    enum-told-3
+    returns-3
+    returns-4)

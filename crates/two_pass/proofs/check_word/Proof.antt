@@ -1,15 +1,15 @@
--- `gray::check_word` meets its contract. Assumes nothing.
+-- `two_pass::check_word` meets its contract. Assumes nothing.
 use mathlib.Core.Path.{sym, ap, _∙_}
 use borrow.Author.Needs.{needs}
-use Rattle.gray.specs.Stages.{checkedAs}
-use Rattle.gray.proofs.Laws.{no-word}
-use Rattle.gray.proofs.check_word.Statement.{statement}
-use Rattle.gray.proofs.check_word.Tie as tie
+use Rattle.two_pass.specs.Stages.{checkedAs}
+use Rattle.gray_theory.specs.Ranking.{too-long-or-short}
+use Rattle.two_pass.proofs.check_word.Statement.{statement}
+use Rattle.two_pass.proofs.check_word.Tie as tie
 
 returns : tie.Need-returns
 returns c =
     let start = c .before .before .before in
-    sym (ap checkedAs (no-word (start .args .radices .now) (start .args .word .now) (c .if1 .taken)))
+    sym (ap checkedAs (too-long-or-short (start .args .radices .now) (start .args .word .now) (c .if1 .taken)))
 
 all-below-requires : tie.Need-all-below-requires
 all-below-requires c κs = search needs

@@ -1,0 +1,2 @@
+-- Laws that the proof of `rank` cites.
+pub mod Laws
