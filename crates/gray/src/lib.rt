@@ -148,8 +148,8 @@ fn product_of_few(radices: &[u8]) -> u64
     p
 }
 
-// Whether p times q is surely within the limit: they have at most 46 bits and 16, which hold eight radices of 4, or 30 and 32,
-// which hold any four. (At these bounds themselves, a power of two has a bit more.)
+// Whether p times q is surely within the limit: at most 2^46 times 2^16, which eight radices of 4 make, or 2^30 times 2^32, which
+// is more than any four make.
 fn surely_within(p: u64, q: u64) -> bool
     ensures { λ r. ⌜ (r ≡ true → p * q ≤ 2 ^ 62) ⌝ }
 {

@@ -6,6 +6,7 @@ use super::{surveys, Group};
 use crate::capi::Answer;
 use crate::chance::Chance;
 use crate::run::Run;
+use crate::second::survey::MOST_SLUICES;
 
 /// Two sluices: m2 = 2, m1 = 3, six settings.
 const TWO: [u8; 2] = [2, 3];
@@ -22,6 +23,7 @@ pub fn compare(g: &mut Group, _: &mut Chance) {
     sluice_numbers(g);
     notch_counts(g);
     sizes(g);
+    equal_counts(g);
     capacities(g);
     disk_counts(g);
     wanted_too_much(g);
@@ -210,6 +212,21 @@ fn sizes(g: &mut Group) {
         &((1 << 62) + 1_243_840),
         &product,
     );
+}
+
+/// Refusals 3 and 4 at every number of sluices: the same count everywhere, alone and with a 0 at each place, which goes first
+/// even where the others make more than 2^62.
+fn equal_counts(g: &mut Group) {
+    for n in 1..=MOST_SLUICES {
+        for m in 1..=255 {
+            both::size(g, &vec![m; n]);
+        }
+        for (place, m) in (0..n).flat_map(|place| [(place, 2), (place, 255)]) {
+            let mut counts = vec![m; n];
+            counts[place] = 0;
+            both::size(g, &counts).is(g, || format!("0 at place {place} of {n} counts of {m}"), Err(3));
+        }
+    }
 }
 
 /// Refusal 5.
