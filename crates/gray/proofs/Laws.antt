@@ -18,7 +18,7 @@ use Rattle.gray_theory.specs.Faults.{Fault.count, Fault.radix, Fault.many, Faul
 use Rattle.gray_theory.specs.Refusals.{accepted, radices-accepted}
 use Rattle.gray.specs.Stages.{productAs, Multiplied, digitAs, twoAs, pairAs, placeAs}
 use Rattle.gray.specs.declared.Place.{Place}
-use Rattle.gray.specs.declared.Place.the-variants.{At, Nowhere}
+use Rattle.gray.specs.declared.Place.the-variants.{At, NoWord}
 use Rattle.gray.specs.declared.Digit.the-variants.{Below, Wrong}
 use Rattle.gray.specs.declared.Product.{Product}
 use Rattle.gray.specs.declared.Product.the-variants.{Within, Over}
@@ -26,9 +26,9 @@ use Rattle.gray_theory.specs.Words.{isWord, reflect, rank, member}
 use Rattle.gray_theory.specs.Indexed.{wordAt}
 use Rattle.gray_theory.specs.Members.{member-is-wordAt, length-wordAt}
 use Rattle.gray_theory.specs.Digits.{digits-more, size-taken}
-use Rattle.gray_theory.specs.Ranking.{two-as-one, two-below, below-more, below-all, rank-more, rank-all, not-below}
+use Rattle.gray_theory.specs.Ranking.{two-as-one, two-below, below-more, below-all, rank-more, rank-all, not-below, word-refused, word-ranked}
 use Rattle.gray_theory.specs.Sizes.{size-append, size-pos, size-none}
-use Rattle.gray_theory.specs.Bools.{impossible}
+use Rattle.gray_theory.specs.Bools.{impossible, never-true, never-false}
 
 -- ---- none_zero
 pub tested-more : (k : ℕ) (l : List ℕ) (i : ℕ) (ok : Bool)
@@ -162,11 +162,9 @@ module _ (l : List ℕ) where
     module _ (r : Product) (made : Multiplied l r) where
       -- a product that is 0 has a radix that is 0, and one that is not has none
       pub zero-refused : (n : ℕ) → r ≡ Within n → n ≡ 0 → refused 3 ≡ sizeCall l
-      zero-refused n e nil = radix-refused (go (allFrom 1 (digits l)) refl)
-        where
-          go : (b : Bool) → allFrom 1 (digits l) ≡ b → allFrom 1 (digits l) ≡ false
-          go true f = let some = size-pos (digits l) f in let same = subst (Multiplied l) e made .0 in absurd (omega arith)
-          go false f = f
+      zero-refused n e nil =
+          let same = subst (Multiplied l) e made .0 in
+          radix-refused (never-true (allFrom 1 (digits l)) (λ f. let some = size-pos (digits l) f in absurd (omega arith)))
 
       pub size-refused : r ≡ Over → allFrom 1 (digits l) ≡ true → refused 4 ≡ sizeCall l
       unfolding sizeCall
@@ -179,19 +177,16 @@ module _ (l : List ℕ) where
       size-given n e some =
           let (same, within) = subst (Multiplied l) e made in
           let small = le-ltb (2 ^ 62) (size (digits l)) (omega arith) in
+          let least = never-false (allFrom 1 (digits l)) (λ f. some (same ∙ size-none (digits l) f)) in
           ap given same
-          ∙ sym (lowest-fault-is-given (digits l) (none (sym same-count ∙ counted) (ap not (go (allFrom 1 (digits l)) refl)) small) (given (size (digits l))))
-        where
-          go : (b : Bool) → allFrom 1 (digits l) ≡ b → allFrom 1 (digits l) ≡ true
-          go true f = f
-          go false f = absurd (some (subst (Multiplied l) e made .0 ∙ size-none (digits l) f))
+          ∙ sym (lowest-fault-is-given (digits l) (none (sym same-count ∙ counted) (ap not least) small) (given (size (digits l))))
 
 -- ---- digit_at and pair_at
-pub digit-below : (m a : ℕ) → a < m → Below m a ≡ digitAs m a
-digit-below m a h = rw (lt-ltb a m h)
+pub digit-is-below : (m a : ℕ) → a < m → Below m a ≡ digitAs m a
+digit-is-below m a h = rw (lt-ltb a m h)
 
-pub digit-wrong : (m a : ℕ) → m ≤ a → Wrong ≡ digitAs m a
-digit-wrong m a h = rw (le-ltb a m h)
+pub digit-is-wrong : (m a : ℕ) → m ≤ a → Wrong ≡ digitAs m a
+digit-is-wrong m a h = rw (le-ltb a m h)
 
 below-says : (m a x y : ℕ) → digitAs m a ≡ Below x y → (x ≡ m) × (y ≡ a) × (a < m)
 below-says m a x y e = go (ltb a m) refl
@@ -323,33 +318,23 @@ module _ (l w : List ℕ) (same : length w ≡ length l) where
       let one = below-all l w same i true h (sym (so .one)) in
       rw (sym one) (ap At (rank-all l w same i p h (so .whole)))
 
-pub no-place : (l w : List ℕ) → isWord (digits l) (digits w) ≡ false → Nowhere ≡ placeAs l w
+pub no-place : (l w : List ℕ) → isWord (digits l) (digits w) ≡ false → NoWord ≡ placeAs l w
 no-place l w e = rw e
 
 pub wrong-over : (m a : ℕ) → digitAs m a ≡ Wrong → m ≤ a
 wrong-over m a e = ltb-false a m (wrong-says m a e)
 
 -- ---- rank
-module _ (l w : List ℕ) (n : ℕ) (size-is : sizeCall l ≡ given n) where
-  pub word-refused : isWord (digits l) (digits w) ≡ false → refused 8 ≡ rankCall l w
-  unfolding rankCall
-  word-refused e = sym (radices-accepted l n _ size-is ∙ rw e)
+module _ (l w : List ℕ) (n : ℕ) (size-is : sizeCall l ≡ given n) (r : Place) (found : r ≡ placeAs l w) where
+  pub no-word-refused : r ≡ NoWord → refused 8 ≡ rankCall l w
+  no-word-refused e = word-refused l w n size-is (never-true (isWord (digits l) (digits w)) (λ f. impossible (cc)))
 
-  module _ (r : Place) (found : r ≡ placeAs l w) where
-    pub nowhere-refused : r ≡ Nowhere → refused 8 ≡ rankCall l w
-    nowhere-refused e = word-refused (go (isWord (digits l) (digits w)) refl)
-      where
-        go : (b : Bool) → isWord (digits l) (digits w) ≡ b → isWord (digits l) (digits w) ≡ false
-        go true f = impossible (cc)
-        go false f = f
-
-    pub rank-given : (p : ℕ) → r ≡ At p → given p ≡ rankCall l w
-    unfolding rankCall
-    rank-given p e = go (isWord (digits l) (digits w)) refl
-      where
-        go : (b : Bool) → isWord (digits l) (digits w) ≡ b → given p ≡ rankCall l w
-        go true f = sym (radices-accepted l n _ size-is ∙ rw f (cc))
-        go false f = impossible (cc)
+  pub rank-given : (p : ℕ) → r ≡ At p → given p ≡ rankCall l w
+  rank-given p e = go (isWord (digits l) (digits w)) refl
+    where
+      go : (b : Bool) → isWord (digits l) (digits w) ≡ b → given p ≡ rankCall l w
+      go true f = let same : p ≡ rank (digits l) (digits w) = cc in ap given same ∙ word-ranked l w n size-is f
+      go false f = impossible (cc)
 
 -- ---- put_word
 drop-stored : (out : List ℕ) (i a : ℕ) → i < length out → drop i (set out i a) ≡ a ∷ drop (suc i) out

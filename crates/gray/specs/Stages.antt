@@ -11,7 +11,7 @@ use Rattle.gray_theory.specs.Indexed.{wordAt}
 use Rattle.gray.specs.declared.Digit.{Digit}
 use Rattle.gray.specs.declared.Digit.the-variants.{Below, Wrong}
 use Rattle.gray.specs.declared.Place.{Place}
-use Rattle.gray.specs.declared.Place.the-variants.{At, Nowhere}
+use Rattle.gray.specs.declared.Place.the-variants.{At, NoWord}
 use Rattle.gray.specs.declared.Product.{Product}
 use Rattle.gray.specs.declared.Product.the-variants.{Within, Over}
 
@@ -44,7 +44,7 @@ pub record Rankable (radices word : List ℕ) : Type 0 where
 
 -- the rank of what is a setting
 abbrev pub placeAs : List ℕ → List ℕ → Place
-placeAs radices word = cond (isWord (digits radices) (digits word)) (At (rank (digits radices) (digits word))) Nowhere
+placeAs radices word = cond (isWord (digits radices) (digits word)) (At (rank (digits radices) (digits word))) NoWord
 
 -- radices that have passed their checks, and an output that has room for a word
 pub record Room (radices out : List ℕ) : Type 0 where

@@ -65,10 +65,10 @@ enum Digit {
     Wrong,
 }
 
-// The rank of what is a word; or nothing.
+// The rank of a word; or bytes that are no word.
 enum Place {
     At(u64),
-    Nowhere,
+    NoWord,
 }
 
 // The most digits of a word (sluices of a survey), and the most places of a work-ahead buffer.
@@ -278,14 +278,14 @@ fn place_of(radices: &[u8], word: &[u8]) -> Place
     if i == 1 {
         let first = digit_at(radices, word, 0);
         let Digit::Below(_, a) = first else {
-            return Place::Nowhere;
+            return Place::NoWord;
         };
         p = a;
     }
     while i < n {
         let next = pair_at(radices, word, i);
         let Digit::Below(m, a) = next else {
-            return Place::Nowhere;
+            return Place::NoWord;
         };
         p = p * m + reflect(m, p, a);
         i += 2;

@@ -1,7 +1,7 @@
 -- Laws for loops over the bytes of a word, the slowest digit first: what is tested and ranked of the first i bytes.
 use Prim.Native.Nat.{ℕ, _+_, _-_, _*_, _/_, _%_, _^_, _≤_, _<_}
 use native.Mathlib.Omega.{arith}
-use mathlib.Core.Path.{_≡_, refl, ap, ap₂, _∙_}
+use mathlib.Core.Path.{_≡_, refl, sym, ap, ap₂, _∙_}
 use mathlib.Core.Bool.{Bool, true, false, not, cond, _&&_}
 use mathlib.Core.List.{List}
 use borrow.Author.Tests.{eqb-true, eqb-false, eq-eqb, ne-eqb}
@@ -9,10 +9,14 @@ use lib.Arith.{digits-lt}
 use lib.Dec.{eqb, ltb}
 use lib.ListN.{length, getD, take}
 use lib.Seq.{take-all}
+use Rattle.gray_theory.specs.Answers.{given, refused}
 use Rattle.gray_theory.specs.Radices.{digits, size, allFrom}
 use Rattle.gray_theory.specs.Words.{even, isWord, reflect, rank}
 use Rattle.gray_theory.specs.Digits.{digits-more, size-taken, word-long, digit-below}
 use Rattle.gray_theory.specs.Ranks.{reflect-below, rank-below}
+use Rattle.gray_theory.specs.Calls.{sizeCall, rankCall}
+use Rattle.gray_theory.specs.Refusals.{radices-accepted}
+use Rattle.gray_theory.specs.Bools.{never-true}
 
 -- ---- two digits as one
 -- the parity of a rank, one digit further on: the digit's own after an even rank, the other after an odd one
@@ -120,16 +124,19 @@ rank-small l w i one least limit =
 -- ---- no word
 -- of another length than the radices
 pub too-long-or-short : (l w : List ℕ) → (length w ≡ length l → ⊥) → isWord (digits l) (digits w) ≡ false
-too-long-or-short l w n = go (isWord (digits l) (digits w)) refl
-  where
-    go : (b : Bool) → isWord (digits l) (digits w) ≡ b → isWord (digits l) (digits w) ≡ false
-    go true e = absurd (n (word-long l w e))
-    go false e = e
+too-long-or-short l w n = never-true (isWord (digits l) (digits w)) (λ e. n (word-long l w e))
 
 -- with a digit that is not below its radix
 pub not-below : (l w : List ℕ) (i : ℕ) → i < length l → getD l i 0 ≤ getD w i 0 → isWord (digits l) (digits w) ≡ false
-not-below l w i h over = go (isWord (digits l) (digits w)) refl
-  where
-    go : (b : Bool) → isWord (digits l) (digits w) ≡ b → isWord (digits l) (digits w) ≡ false
-    go true e = let below = digit-below l w i h e in absurd (omega arith)
-    go false e = e
+not-below l w i h over =
+    never-true (isWord (digits l) (digits w)) (λ e. let below = digit-below l w i h e in absurd (omega arith))
+
+-- ---- what a call answers once its radices are accepted
+module _ (l w : List ℕ) (n : ℕ) (size-is : sizeCall l ≡ given n) where
+  pub word-refused : isWord (digits l) (digits w) ≡ false → refused 8 ≡ rankCall l w
+  unfolding rankCall
+  word-refused e = sym (radices-accepted l n _ size-is ∙ rw e)
+
+  pub word-ranked : isWord (digits l) (digits w) ≡ true → given (rank (digits l) (digits w)) ≡ rankCall l w
+  unfolding rankCall
+  word-ranked e = sym (radices-accepted l n _ size-is ∙ rw e)

@@ -5,9 +5,9 @@ use mathlib.Core.Bool.{Bool, true, false}
 use mathlib.Core.List.{List}
 use Rattle.gray_theory.specs.Answers.{given, refused}
 use Rattle.gray_theory.specs.Radices.{digits}
-use Rattle.gray_theory.specs.Words.{isWord, rank}
+use Rattle.gray_theory.specs.Words.{isWord}
 use Rattle.gray_theory.specs.Calls.{sizeCall, rankCall}
-use Rattle.gray_theory.specs.Refusals.{radices-accepted}
+use Rattle.gray_theory.specs.Ranking.{word-refused}
 use Rattle.gray_theory.specs.Bools.{impossible}
 use Rattle.two_pass.specs.Stages.{checkedAs, checkNumber}
 use Rattle.two_pass.specs.declared.Checked.{Checked}
@@ -21,18 +21,15 @@ refused-says : (b : Bool) (k : ℕ) → checkedAs b ≡ Refused k → (b ≡ fal
 refused-says true k e = impossible (cc)
 refused-says false k e = (refl, cc)
 
-module _ (l w : List ℕ) (n : ℕ) (size-is : sizeCall l ≡ given n) where
-  pub word-refused : (o : Checked) (x number : ℕ)
-      → o ≡ checkedAs (isWord (digits l) (digits w))
-      → o ≡ Refused x
-      → number ≡ checkNumber o
-      → refused number ≡ rankCall l w
-  unfolding rankCall
-  word-refused o x number e f g =
-      let said = refused-says (isWord (digits l) (digits w)) x (sym e ∙ f) in
-      let same : number ≡ 8 = g ∙ ap checkNumber f ∙ sym (said .1) in
-      ap refused same ∙ sym (radices-accepted l n _ size-is ∙ rw (said .0))
-
-  pub rank-given : isWord (digits l) (digits w) ≡ true → given (rank (digits l) (digits w)) ≡ rankCall l w
-  unfolding rankCall
-  rank-given e = sym (radices-accepted l n _ size-is ∙ rw e)
+-- a word that its check refuses, with the number that it gives
+pub check-refused : (l w : List ℕ) (n : ℕ)
+    → sizeCall l ≡ given n
+    → (o : Checked) (x number : ℕ)
+    → o ≡ checkedAs (isWord (digits l) (digits w))
+    → o ≡ Refused x
+    → number ≡ checkNumber o
+    → refused number ≡ rankCall l w
+check-refused l w n size-is o x number e f g =
+    let said = refused-says (isWord (digits l) (digits w)) x (sym e ∙ f) in
+    let same : number ≡ 8 = g ∙ ap checkNumber f ∙ sym (said .1) in
+    ap refused same ∙ word-refused l w n size-is (said .0)

@@ -3,7 +3,7 @@ use mathlib.Core.Path.{ap₂, _∙_}
 use borrow.Author.Needs.{needs}
 use native.Mathlib.Omega.{arith}
 use Rattle.gray.specs.Stages.{digitAs}
-use Rattle.gray.proofs.Laws.{digit-below, digit-wrong}
+use Rattle.gray.proofs.Laws.{digit-is-below, digit-is-wrong}
 use Rattle.gray.proofs.digit_at.Statement.{statement}
 use Rattle.gray.proofs.digit_at.Tie as tie
 
@@ -23,13 +23,13 @@ returns : tie.Need-returns
 returns c =
     let radix = c .before .before .before .wide in
     let digit = c .before .wide2 in
-    (digit-wrong (radix .result) (digit .result) (omega arith) ∙ ap₂ digitAs (radix .ensures .0) (digit .ensures .0), omega arith)
+    (digit-is-wrong (radix .result) (digit .result) (omega arith) ∙ ap₂ digitAs (radix .ensures .0) (digit .ensures .0), omega arith)
 
 returns-2 : tie.Need-returns-2
 returns-2 c =
     let radix = c .before .before .before .wide in
     let digit = c .before .wide2 in
-    (digit-below (radix .result) (digit .result) (omega arith) ∙ ap₂ digitAs (radix .ensures .0) (digit .ensures .0), omega arith)
+    (digit-is-below (radix .result) (digit .result) (omega arith) ∙ ap₂ digitAs (radix .ensures .0) (digit .ensures .0), omega arith)
 
 pub digit-at-spec : {M : Type 1} → statement M
 digit-at-spec =

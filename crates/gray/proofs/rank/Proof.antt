@@ -4,11 +4,11 @@ use mathlib.Core.Path.{_≡_, sym, ap, _∙_}
 use borrow.Author.Needs.{needs}
 use Rattle.gray_theory.specs.Answers.{given}
 use Rattle.gray_theory.specs.Calls.{sizeCall, rankCall}
-use Rattle.gray_theory.specs.Ranking.{too-long-or-short}
+use Rattle.gray_theory.specs.Ranking.{too-long-or-short, word-refused}
 use Rattle.gray_theory.specs.Refusals.{accepted}
 use Rattle.gray.specs.Enums.{countedAs}
 use Rattle.gray.specs.Passing.{passed-on}
-use Rattle.gray.proofs.Laws.{word-refused, nowhere-refused, rank-given}
+use Rattle.gray.proofs.Laws.{no-word-refused, rank-given}
 use Rattle.gray.proofs.rank.Statement.{statement}
 use Rattle.gray.proofs.rank.Tie as tie
 
@@ -56,7 +56,7 @@ enum-told-3 c = search needs
 returns-3 : tie.Need-returns-3
 returns-3 c =
     let called = c .before .before in
-    nowhere-refused _ _ _ (size-is (called .before .before)) _ (called .place-of .ensures) (c .enum-told3 .given .1)
+    no-word-refused _ _ _ (size-is (called .before .before)) _ (called .place-of .ensures) (c .enum-told3 .given .1)
 
 returns-4 : tie.Need-returns-4
 returns-4 c =

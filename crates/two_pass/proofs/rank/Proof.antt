@@ -4,10 +4,11 @@ use mathlib.Core.Path.{_≡_, sym, ap, _∙_}
 use Rattle.gray_theory.specs.Answers.{given}
 use Rattle.gray_theory.specs.Calls.{sizeCall, rankCall}
 use Rattle.gray.specs.Enums.{countedAs}
+use Rattle.gray_theory.specs.Ranking.{word-ranked}
 use Rattle.gray_theory.specs.Refusals.{accepted}
 use Rattle.gray.specs.Passing.{passed-on}
 use Rattle.two_pass.specs.Stages.{Rankable}
-use Rattle.two_pass.proofs.Laws.{fine-says, word-refused, rank-given}
+use Rattle.two_pass.proofs.Laws.{fine-says, check-refused}
 use borrow.Author.Needs.{needs}
 use Rattle.two_pass.proofs.rank.Statement.{statement}
 use Rattle.two_pass.proofs.rank.Tie as tie
@@ -63,7 +64,7 @@ returns-2 : tie.Need-returns-2
 returns-2 c =
     let told = c .before in
     let tested = told .before .before in
-    word-refused _ _ _ (size-is tested) _ _ _ (tested .check-word .ensures) (told .enum-told4 .given .1) (c .number2 .ensures)
+    check-refused _ _ _ (size-is tested) _ _ _ (tested .check-word .ensures) (told .enum-told4 .given .1) (c .number2 .ensures)
 
 rank-from-requires : tie.Need-rank-from-requires
 rank-from-requires c κs = rankable c
@@ -71,7 +72,7 @@ rank-from-requires c κs = rankable c
 returns-3 : tie.Need-returns-3
 returns-3 c =
     let told = c .before in
-    ap given (c .rank-from .ensures) ∙ rank-given _ _ _ (size-is (told .before .before)) (rankable told .one)
+    ap given (c .rank-from .ensures) ∙ word-ranked _ _ _ (size-is (told .before .before)) (rankable told .one)
 
 pub rank-spec : {M : Type 1} → statement M
 rank-spec =
