@@ -13,7 +13,7 @@ use stretch::Stage;
 
 // Calls of a run: the state after them, how many moved, and what stopped them: nothing (0), the end of the walk (1), or a dry
 // call (2).
-#[derive(Drop)]
+#[derive(Clone, Copy)]
 struct Called {
     walk: Walk,
     made: usize,

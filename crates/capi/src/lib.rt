@@ -1,5 +1,8 @@
 // The calls for C and Rust: numbers and slices of numbers only, each result one number of 64 bits. Each function is thin: it calls
 // the library and encodes the answer. outside/include/gray.h declares them.
+
+#![tactic(auto)]
+
 ghost use Rattle.std.specs.Prelude.{◌≡◌};
 ghost use Rattle.gray_theory.specs.Answers.{refused};
 ghost use Rattle.gray_theory.specs.Calls.{size_call, rank_call, word_call};

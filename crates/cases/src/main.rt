@@ -31,6 +31,8 @@
 // Digits are numbered from 1, and so are the queue's entries, the oldest first, and the digits that move, the fastest first:
 // `moving` says how many they are, and `number` gives the number of each. For `down` (a direction) and `ended` 1 is yes.
 
+#![tactic(auto)]
+
 ghost use Rattle.std.specs.Prelude.{◌≡◌, ◌≤◌, length};
 ghost use Rattle.io.specs.Counts.{IsPrefixLen};
 
@@ -102,14 +104,14 @@ const TURN: u64 = 0x7475726e;
 const PEG: u64 = 0x706567;
 
 // How many numbers were read, and whether all could be.
-#[derive(Drop)]
+#[derive(Clone, Copy)]
 struct Read {
     count: usize,
     whole: bool,
 }
 
 // The states of both engines.
-#[derive(Drop)]
+#[derive(Clone, Copy)]
 struct Held {
     walk: Walk,
     towers: Towers,

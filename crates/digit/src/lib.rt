@@ -1,4 +1,7 @@
 // Single digits: the byte of a move, the range rule and the move that both engines make, and bytes as an engine's array.
+
+#![tactic(auto)]
+
 ghost use Rattle.std.specs.Prelude.{◌≡◌, ◌<◌, ◌+◌, ◌&&◌, ◌||◌, eqb, ltb, leb, length, take, get_or};
 ghost use Rattle.gray_theory.specs.Directions.{turned_at, digit_in_range, digits_in_range, all_below};
 ghost use Rattle.gray_theory.specs.Locks.{moving_digits as movingDigitsOf, moving_in_range};
@@ -13,7 +16,7 @@ use gray::DIGITS;
 pub const MOST: u8 = DIGITS as u8;
 
 // A digit with its direction.
-#[derive(Drop)]
+#[derive(Clone, Copy)]
 pub struct Directed {
     pub digit: u8,
     pub down: bool,
@@ -107,7 +110,7 @@ pub fn advanced(m: u8, a: u8, down: bool) -> Directed
 }
 
 // The digits of an engine's survey that move, in rising order, and how many they are.
-#[derive(Drop)]
+#[derive(Clone, Copy)]
 pub struct MovingDigits {
     pub digits: [u8; DIGITS],
     pub count: u8,
@@ -166,7 +169,7 @@ fn all_move(n: u8, radices: [u8; DIGITS], held: [u8; DIGITS]) -> bool
 }
 
 // How many digits that move have been met, and whether each of them is held at its place among them.
-#[derive(Drop)]
+#[derive(Clone, Copy)]
 struct Met {
     count: usize,
     ok: bool,

@@ -1,4 +1,7 @@
 // Either engine, for callers that make the same calls of both: the buffered engine of `ahead` or the disk engine of `towers`.
+
+#![tactic(auto)]
+
 ghost use Rattle.std.specs.Prelude.{◌≡◌};
 ghost use Rattle.ahead.specs.Structs.{walk_as};
 ghost use Rattle.towers.specs.Structs.{towers_as};
@@ -11,20 +14,20 @@ use towers::Towers;
 
 // The disk engine if `disks`, and else the buffered one; the other's state plays no part. An enum with a state in each variant
 // would say so by itself, but the borrow checker does not cover one that holds arrays.
-#[derive(Drop)]
+#[derive(Clone, Copy)]
 pub struct Engine {
     walk: Walk,
     towers: Towers,
     disks: bool,
 }
 
-#[derive(Drop)]
+#[derive(Clone, Copy)]
 pub struct Stepped {
     pub engine: Engine,
     pub answer: Stepping,
 }
 
-#[derive(Drop)]
+#[derive(Clone, Copy)]
 pub struct Ran {
     pub engine: Engine,
     pub answer: Running,

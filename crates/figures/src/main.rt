@@ -3,6 +3,8 @@
 // come the numbers of words that agree with their rank, with the word of their rank and with the lister's. Then for each
 // engine how many of its settings and moves agree, and whether it ends after the last word.
 
+#![tactic(auto)]
+
 ghost use Rattle.std.specs.Prelude.{◌≡◌, ◌≤◌, ◌<◌, length};
 
 use ahead::Walk;
@@ -11,7 +13,7 @@ use gray::{DIGITS, Opening, Ranked, Stepping, Written};
 use towers::Towers;
 
 // How many words agreed with their rank, with the word of their rank and with the lister's.
-#[derive(Drop)]
+#[derive(Clone, Copy)]
 struct Tally {
     ranks: u64,
     words: u64,
@@ -19,7 +21,7 @@ struct Tally {
 }
 
 // What agreed in a walk, and whether its last call answered the end.
-#[derive(Drop)]
+#[derive(Clone, Copy)]
 struct Walked {
     settings: u64,
     moves: u64,

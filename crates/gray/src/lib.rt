@@ -1,6 +1,8 @@
 // The reflected mixed-radix Gray code: sizes, ranks and words.
 // Radices and words are lent bytes with digit n first; digit 1 is the fastest.
 
+#![tactic(auto)]
+
 ghost use Rattle.std.specs.Prelude.{◌≡◌, true, ◌+◌, ◌^◌, ◌*◌, ◌≤◌, ◌<◌, length, get_or};
 ghost use Rattle.gray_theory.specs.Answers.{number_of, Wrote};
 ghost use Rattle.gray_theory.specs.Radices.{digits, size as size_of, all_from};
@@ -10,28 +12,28 @@ ghost use Rattle.gray.specs.Enums.{counted_as, ranked_as, written_as, opening_as
 ghost use Rattle.gray.specs.Stages.{product_as, Multiplied, digit_as, pair_as, Rankable, place_as, Room, put_word};
 
 // What `size` answers: N, the number of words (settings) of a mixed-radix system (a survey).
-#[derive(Drop)]
+#[derive(Clone, Copy)]
 pub enum Counted {
     Size(u64),
     Refused(u8),
 }
 
 // What `rank` answers: the place of a word in the list, from 0.
-#[derive(Drop)]
+#[derive(Clone, Copy)]
 pub enum Ranked {
     Rank(u64),
     Refused(u8),
 }
 
 // What a writer answers: how many bytes it has written.
-#[derive(Drop)]
+#[derive(Clone, Copy)]
 pub enum Written {
     Bytes(usize),
     Refused(u8),
 }
 
 // What opening an engine answers.
-#[derive(Drop)]
+#[derive(Clone, Copy)]
 pub enum Opening {
     Open,
     Refused(u8),
@@ -39,7 +41,7 @@ pub enum Opening {
 
 // What a call of an engine answers: the digit that it moved, whether that went down, and the notch that it has come to; the end
 // of the walk; or a refusal.
-#[derive(Drop)]
+#[derive(Clone, Copy)]
 pub enum Stepping {
     Moved(u8, bool, u8),
     End,
@@ -48,7 +50,7 @@ pub enum Stepping {
 
 // What a run of moves answers: so many, all that were asked for; the end of the walk after so many; a call refused after so many, and
 // its number; or the run refused, with no move made.
-#[derive(Drop)]
+#[derive(Clone, Copy)]
 pub enum Running {
     Made(u64),
     Ended(u64),
@@ -57,21 +59,21 @@ pub enum Running {
 }
 
 // A product of radices, within the limit of 2^62 or over it.
-#[derive(Drop)]
+#[derive(Clone, Copy)]
 enum Product {
     Within(u64),
     Over,
 }
 
 // A digit that is below its radix, after the radix; or one that is not.
-#[derive(Drop)]
+#[derive(Clone, Copy)]
 enum Digit {
     Below(u64, u64),
     Wrong,
 }
 
 // The rank of a word; or bytes that are no word.
-#[derive(Drop)]
+#[derive(Clone, Copy)]
 enum Place {
     At(u64),
     NoWord,

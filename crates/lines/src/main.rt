@@ -1,6 +1,8 @@
 // What `walk` answers first to lines good and bad: each line of the input in quotes, and then the first line of its answer. The
 // last one has no newline. Each line is read in two parts.
 
+#![tactic(auto)]
+
 ghost use Rattle.std.specs.Prelude.{min, ◌≡◌, length};
 ghost use Rattle.io.specs.Counts.{IsPrefixLen};
 

@@ -1,6 +1,8 @@
 // The writer of settings (document 01): an upward and a downward lister, each calling the other for the digits that remain.
 // Radices and words are lent bytes with digit n first.
 
+#![tactic(auto)]
+
 ghost use Rattle.std.specs.Prelude.{◌≡◌, true, false, not, cond, [], ◌∷◌, ◌++◌, ◌+◌, ◌-◌, ◌*◌, ◌^◌, ◌≤◌, ◌<◌, leb, length, take, drop, set};
 ghost use Rattle.gray_theory.specs.Answers.{Wrote};
 ghost use Rattle.gray.specs.Enums.{written_as};
@@ -119,7 +121,7 @@ fn put_word(word: &[u8; DIGITS], n: usize, a: u8, b: u8, c: u8, out: &mut [u8], 
 }
 
 // What a lister has still to do: `skip` words to pass over, then `left` to write, the first of them at place `at`.
-#[derive(Drop)]
+#[derive(Clone, Copy)]
 struct Window {
     skip: usize,
     left: usize,

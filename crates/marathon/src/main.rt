@@ -2,6 +2,8 @@
 // disk engine, and prints for each the number of moves and the last setting, or its refusal, or `unfinished` where it has not
 // ended after N moves. Input is a line as `walk` reads it. Any other text prints `unread`, a refused survey its number.
 
+#![tactic(auto)]
+
 ghost use Rattle.std.specs.Prelude.{◌≤◌, length};
 
 use ahead::Walk;
@@ -11,7 +13,7 @@ use reader::{Found, Reader};
 use towers::Towers;
 
 // How a walk came out: the end after so many moves, a run that was refused or stopped, or no end in N moves.
-#[derive(Drop)]
+#[derive(Clone, Copy)]
 enum Outcome {
     Finished(u64),
     Refused(u8),
@@ -19,7 +21,7 @@ enum Outcome {
 }
 
 // An engine as its walk has left it, and how that came out.
-#[derive(Drop)]
+#[derive(Clone, Copy)]
 struct Finish {
     engine: Engine,
     outcome: Outcome,

@@ -1,4 +1,7 @@
 // The pages that the program `walk` prints: whole lines, one after the other, each from the walk as it stands there.
+
+#![tactic(auto)]
+
 ghost use Rattle.std.specs.Prelude.{◌≡◌, take};
 ghost use Rattle.gray_theory.specs.Answers.{Wrote};
 ghost use Rattle.gray.specs.Enums.{stepping_as, written_as};
@@ -15,14 +18,14 @@ use reader::{Found, Reader};
 use text_theory::Line;
 
 // What is still to be printed: the line that comes next, and the walk as it stands at that line.
-#[derive(Drop)]
+#[derive(Clone, Copy)]
 pub struct Printing {
     pub line: Line,
     pub walk: Walk,
 }
 
 // What is to be printed behind a page, how many bytes of the page are used, and whether it is the last one.
-#[derive(Drop)]
+#[derive(Clone, Copy)]
 pub struct Filled {
     pub rest: Printing,
     pub used: usize,

@@ -1,5 +1,7 @@
 // What the program `walk` reads: decimal numbers, and the line of notch counts.
 
+#![tactic(auto)]
+
 ghost use Rattle.std.specs.Prelude.{◌≡◌, ◌≤◌, min as minOf, length};
 ghost use Rattle.text_theory.specs.Decimals.{digit_of};
 ghost use Rattle.reader.specs.Parsing.{number_of};
@@ -9,14 +11,14 @@ ghost use Rattle.reader.specs.Stages.{count_of};
 use gray::DIGITS;
 
 // What `number` answers.
-#[derive(Drop)]
+#[derive(Clone, Copy)]
 pub enum Parsed {
     Number(u64),
     Unread,
 }
 
 // How far a line has been read: it goes on, it has ended, or it is no line of counts.
-#[derive(Drop)]
+#[derive(Clone, Copy)]
 pub enum Phase {
     More,
     Ended,
@@ -27,7 +29,7 @@ pub enum Phase {
 const KEPT: usize = DIGITS + 1;
 
 // The reader of the line of counts: the counts so far, and the bytes of the field that is being read.
-#[derive(Drop)]
+#[derive(Clone, Copy)]
 pub struct Reader {
     pub counts: [u8; KEPT],
     pub kept: u8,
@@ -37,7 +39,7 @@ pub struct Reader {
 }
 
 // What a reader has found: that the line goes on, how many counts are kept once it has ended, or that it is no line of counts.
-#[derive(Drop)]
+#[derive(Clone, Copy)]
 pub enum Found {
     More,
     Counts(usize),
@@ -45,7 +47,7 @@ pub enum Found {
 }
 
 // A field as a notch count.
-#[derive(Drop)]
+#[derive(Clone, Copy)]
 enum Count {
     Is(u8),
     Unread,

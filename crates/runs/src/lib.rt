@@ -1,4 +1,7 @@
 // The moves of a fresh walk as bytes in a lent output, by either engine, or of one that is picked up: an opening and one run.
+
+#![tactic(auto)]
+
 ghost use Rattle.std.specs.Prelude.{◌≡◌};
 ghost use Rattle.ahead_theory.specs.Calls.{run_of};
 ghost use Rattle.ahead.specs.Structs.{walk_as};

@@ -1,6 +1,9 @@
 // A stretch of a run of moves: the buffered engine's calls on arrays that the run holds, in a quicker form than a state's own.
 // Places of the counter, and digits that move by their places, are the indexes of arrays of 256 bytes, so that any byte is one.
 // The queue of its calls is long: a removal leaves its entry behind, and nothing is shifted before the stretch is over.
+
+#![tactic(auto)]
+
 ghost use Rattle.std.specs.Prelude.{◌≡◌, ◌+◌, ◌≤◌, length, take, drop};
 ghost use Rattle.gray_theory.specs.Arrays.{filled};
 ghost use Rattle.ahead_theory.specs.Locals.{fast_work, turned_byte, fast_call};
@@ -11,7 +14,7 @@ use gray::CAPACITY;
 
 // The numbers of a run: the place that the counter has come to, the place in the queue where the next entry goes, and the
 // useful steps made.
-#[derive(Drop)]
+#[derive(Clone, Copy)]
 pub struct Stage {
     pub place: usize,
     pub tail: usize,
@@ -20,7 +23,7 @@ pub struct Stage {
 
 // What a stretch leaves besides its arrays: the calls that moved, the queue's entries, the oldest first, the numbers then, and
 // what stopped it: nothing (0), the end of the walk (1), a dry call (2), or arrays and numbers that are no run's (3).
-#[derive(Drop)]
+#[derive(Clone, Copy)]
 pub struct Stretch {
     pub made: usize,
     pub entries: [u8; CAPACITY],
@@ -30,7 +33,7 @@ pub struct Stretch {
 
 // What its calls leave besides the arrays and the long queue: how many moved, the entries removed, the numbers then, and what
 // stopped them.
-#[derive(Drop)]
+#[derive(Clone, Copy)]
 struct Ran {
     made: usize,
     taken: usize,
@@ -39,7 +42,7 @@ struct Ran {
 }
 
 // One call: the numbers then, whether it moved (0), ended the walk (1) or was dry (2), and the byte of a move.
-#[derive(Drop)]
+#[derive(Clone, Copy)]
 struct Called {
     at: Stage,
     kind: u8,

@@ -1,5 +1,7 @@
 // The lines that the program `walk` writes.
 
+#![tactic(auto)]
+
 ghost use Rattle.std.specs.Prelude.{◌≡◌, cond, [], ◌++◌, ◌+◌, ◌≤◌, min as minOf, length, take};
 ghost use Rattle.gray_theory.specs.Answers.{Wrote};
 ghost use Rattle.gray.specs.Enums.{written_as};

@@ -1,8 +1,10 @@
 // No code: specs/ holds what the program `walk` reads and writes, as definitions on lists of bytes, with their theorems, and here
 // stands the type of a line that it writes. The code is in `reader` and `text`.
 
+#![tactic(auto)]
+
 // The lines of `walk`. `Sizes` has n and N, `Moved` the rank, the digit (sluice) and whether it went down, `End` N − 1.
-#[derive(Drop)]
+#[derive(Clone, Copy)]
 pub enum Line {
     Unread,
     Refused(u8),

@@ -11,14 +11,14 @@ use crate::course::{Course, MOVE_TIME, WAIT};
 use crate::line::{Day, LINE, LOW, Line, line_at, minute_at};
 
 // What `counts` answers: how many windows a file has.
-#[derive(Drop)]
+#[derive(Clone, Copy)]
 pub enum Counting {
     Windows(usize),
     Refused(u8),
 }
 
 // What `may_begin` answers.
-#[derive(Drop)]
+#[derive(Clone, Copy)]
 pub enum Beginning {
     Yes,
     No,
@@ -26,7 +26,7 @@ pub enum Beginning {
 }
 
 // A file that is in order: how many windows it has, and whether one allows the minute that is asked for.
-#[derive(Drop)]
+#[derive(Clone, Copy)]
 enum Passed {
     Windows(usize, bool),
     Refused(u8),

@@ -16,7 +16,7 @@ const WAIT_LEFT: u64 = WAIT - 1;
 
 // Behind some lines: the least minute that the next may have, and the last letter (both 0 at the start); whether the lines are
 // in order; how many windows they have; and whether one of these allows the minute that is asked for.
-#[derive(Drop)]
+#[derive(Clone, Copy)]
 pub(crate) struct Course {
     pub(crate) next: u64,
     pub(crate) last: u8,

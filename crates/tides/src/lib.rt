@@ -1,5 +1,7 @@
 // The harbour file (document 02): how many moves fit in each of its tide windows, and whether a move may begin at a minute.
 
+#![tactic(auto)]
+
 mod calls;
 mod course;
 mod line;

@@ -19,7 +19,7 @@ const ZEROS: u64 = 528;
 
 // A date that has been read: the first eight of its bytes `2031-04-07,` and the last eight, each as a number, and the minute at
 // which it begins.
-#[derive(Drop)]
+#[derive(Clone, Copy)]
 pub(crate) struct Day {
     head: u64,
     tail: u64,
@@ -27,21 +27,21 @@ pub(crate) struct Day {
 }
 
 // What the date of a line is read as.
-#[derive(Drop)]
+#[derive(Clone, Copy)]
 enum Dated {
     On(Day),
     Unread,
 }
 
 // What a line says: the minute of a tide, counted from 2000-01-01 00:00, its letter and its date.
-#[derive(Drop)]
+#[derive(Clone, Copy)]
 pub(crate) enum Line {
     Tide(u64, u8, Day),
     Unread,
 }
 
 // The numbers of a line, each with ZEROS added: the years after 2000, month, day, hour and minute.
-#[derive(Drop)]
+#[derive(Clone, Copy)]
 struct Fields {
     years: u64,
     month: u64,

@@ -1,6 +1,9 @@
 // The disk engine: it walks the list of a mixed-radix Gray code by a game of disks on pegs, one disk for each digit that moves.
 // Arrays in its state have digit 1, the fastest, first. Disks are numbered among the digits that move, and disk 1 is the
 // smallest; disk i + 1 stands at index i.
+
+#![tactic(auto)]
+
 ghost use Rattle.std.specs.Prelude.{◌≡◌, true, cond, ◌&&◌, ◌||◌, not, ◌+◌, ◌-◌, ◌≤◌, ◌<◌, eqb, leb, ltb, length, take, get_or};
 ghost use Rattle.std.proofs.Math.Option.{some};
 ghost use Rattle.gray_theory.specs.Directions.{all_below, digit_in_range};
@@ -21,7 +24,7 @@ use gray::{Counted, DIGITS, Opening, Running, Stepping};
 // that move, in rising order, and the pegs. For odd radices the turn says which pair of pegs is next, 0 for the left one; a
 // disk's peg follows from its digit, and the array of pegs plays no part. For even ones the turn counts the moves of disk 1 in
 // its sweep, and each disk's peg is stored.
-#[derive(Drop)]
+#[derive(Clone, Copy)]
 pub struct Towers {
     pub radices: [u8; DIGITS],
     pub n: u8,
@@ -32,26 +35,26 @@ pub struct Towers {
     pub pegs: [u8; DIGITS],
 }
 
-#[derive(Drop)]
+#[derive(Clone, Copy)]
 pub struct Opened {
     pub towers: Towers,
     pub answer: Opening,
 }
 
-#[derive(Drop)]
+#[derive(Clone, Copy)]
 pub struct Stepped {
     pub towers: Towers,
     pub answer: Stepping,
 }
 
-#[derive(Drop)]
+#[derive(Clone, Copy)]
 pub struct Ran {
     pub towers: Towers,
     pub answer: Running,
 }
 
 // What a call of a run leaves besides its arrays: the byte of its move, 0 where it finds no disk, and the turn then.
-#[derive(Drop)]
+#[derive(Clone, Copy)]
 struct Played {
     byte: u8,
     turn: u8,

@@ -1,5 +1,8 @@
 // The rank in two passes, as it was: the first tests the word, the second ranks it. It is kept so that the one pass of `gray`
 // can be held to it and timed beside it. It is no call of the library for C.
+
+#![tactic(auto)]
+
 ghost use Rattle.std.specs.Prelude.{◌≡◌, ◌<◌, length};
 ghost use Rattle.gray_theory.specs.Radices.{digits};
 ghost use Rattle.gray_theory.specs.Words.{reflect as reflected, is_word, rank as rank_of};
@@ -11,7 +14,7 @@ ghost use Rattle.two_pass.specs.Stages.{checked_as, check_number, Rankable};
 use gray::{Counted, Ranked};
 
 // Whether a word passes its check.
-#[derive(Drop)]
+#[derive(Clone, Copy)]
 enum Checked {
     Fine,
     Refused(u8),

@@ -2,11 +2,13 @@
 // each. The moves are the buffered engine's. What a line of input says is proved in `reader`, what is printed for it in
 // `pages`: here parts of the input are read, and pages written, one after the other.
 
+#![tactic(auto)]
+
 use pages::Printing;
 use reader::{Found, Reader};
 
 // The reader after a part of the input, and whether there may be more to read.
-#[derive(Drop)]
+#[derive(Clone, Copy)]
 struct Progress {
     reader: Reader,
     more: bool,
