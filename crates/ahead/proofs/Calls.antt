@@ -13,26 +13,28 @@ use Rattle.gray_theory.specs.Answers.{Answer, given}
 use Rattle.gray_theory.specs.Arrays.{filled}
 use Rattle.gray_theory.specs.Bools.{impossible}
 use Rattle.gray_theory.specs.Calls.{size_call}
-use Rattle.gray_theory.specs.Filled.{get_d_filled, length-filled}
-use Rattle.gray_theory.specs.Places.{placed, placed-none, placed-append, length-placed}
+use Rattle.gray_theory.proofs.Filled.{get_d_filled, length-filled}
+use Rattle.gray_theory.specs.Places.{placed}
+use Rattle.gray_theory.proofs.Places.{placed-none, placed-append, length-placed}
 use Rattle.gray_theory.specs.Radices.{size}
-use Rattle.gray_theory.specs.Refusals.{survey_refused, survey-size}
+use Rattle.gray_theory.proofs.Refusals.{survey_refused, survey-size}
 use Rattle.gray_theory.specs.Engines.{Event, Handed, after, refused_with}
 use Rattle.gray_theory.specs.RunCalls.{Stop, nothing, end, refusal, Outcome, Running}
-use Rattle.gray_theory.specs.SingleCalls.{no_moves-change_nothing}
-use Rattle.gray_theory.specs.RunLaws.{Moved, moved_none, all_made, ends_there, refused_there, run-made_by}
+use Rattle.gray_theory.proofs.SingleCalls.{no_moves-change_nothing}
+use Rattle.gray_theory.specs.RunLaws.{Moved}
+use Rattle.gray_theory.proofs.RunLaws.{moved_none, all_made, ends_there, refused_there, run-made_by}
 use Rattle.gray.specs.Enums.{counted_as}
 use Rattle.gray.specs.declared.Counted.{Counted}
 use Rattle.gray.specs.declared.Counted.TheVariants.{Size, Refused}
 use Rattle.ahead_theory.specs.States.{Walk, survey, moving_radices, in_range, Arrays}
 use Rattle.ahead_theory.specs.Calls.{step_of, run_of}
 use Rattle.ahead_theory.specs.Events.{state}
-use Rattle.ahead_theory.specs.InRange.{range_says, moving_known, survey_openable, moving_radices_most, producer_says}
-use Rattle.ahead_theory.specs.Kept.{past_the_end}
+use Rattle.ahead_theory.proofs.InRange.{range_says, moving_known, survey_openable, moving_radices_most, producer_says}
+use Rattle.ahead_theory.proofs.Kept.{past_the_end}
 use Rattle.ahead_theory.specs.Locals.{Fast, FastRan, fast_run, TopsOf, Stands}
-use Rattle.ahead_theory.specs.LocalCalls.{numbered}
-use Rattle.ahead_theory.specs.LocalRuns as runs
-use Rattle.ahead_theory.specs.LocalRuns.{OnWay, EndsAt, Halted, IsRun, stretch_is_the_run, stands_bounded, stands_again}
+use Rattle.ahead_theory.proofs.LocalCalls.{numbered}
+use Rattle.ahead_theory.proofs.LocalRuns as runs
+use Rattle.ahead_theory.proofs.LocalRuns.{OnWay, EndsAt, Halted, IsRun, stretch_is_the_run, stands_bounded, stands_again}
 use Rattle.stretch.specs.declared.Stage.{Stage}
 use Rattle.stretch.specs.declared.Stretch.{Stretch}
 use Rattle.stretch.specs.Stages.{Stretched, stretch_as, ran_into, calls_by, from_oldest, fits_for, stretch_by}

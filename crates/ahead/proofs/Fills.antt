@@ -7,8 +7,8 @@ use Rattle.ahead_theory.specs.States.{Producer, Walk, moving_radices, Arrays}
 use Rattle.ahead_theory.specs.Work.{work}
 use Rattle.ahead_theory.specs.Pickups.{fill_steps}
 use Rattle.ahead_theory.specs.GoingOn.{rebuffered}
-use Rattle.ahead_theory.specs.Positions.{Buffered, buffered}
-use Rattle.ahead_theory.specs.FillLaws.{OnTheWay, way_begun, way_again, way_bound, way_ended, way_ranged, way_counter, way_queue, way_place}
+use Rattle.ahead_theory.proofs.Positions.{Buffered, buffered}
+use Rattle.ahead_theory.proofs.FillLaws.{OnTheWay, way_begun, way_again, way_bound, way_ended, way_ranged, way_counter, way_queue, way_place}
 use Rattle.ahead.specs.declared.Progress.{Progress}
 use Rattle.ahead.specs.Structs.{producer_with}
 use Rattle.ahead.specs.Stages.{moving_of, Known, Workable}

@@ -9,16 +9,16 @@ use mathlib.Core.List.{List, [], ◌∷◌}
 use lib.ListN.{length, get_or, set, length-set, get_or-append}
 use lib.Seq.{get_or-set_same, get_or-set_other, ext_get_or}
 use Rattle.gray_theory.specs.MoveBytes.{move_byte, move_down}
-use Rattle.gray_theory.specs.Packing.{unpacked}
+use Rattle.gray_theory.proofs.Packing.{unpacked}
 use Rattle.gray_theory.specs.Arrays.{filled}
-use Rattle.gray_theory.specs.Filled.{get_d_filled}
-use Rattle.gray_theory.specs.WordRanges.{digit_ranged}
-use Rattle.gray_theory.specs.Sizes.{radix_two}
-use Rattle.gray_theory.specs.Unlocked.{unlocked_two}
+use Rattle.gray_theory.proofs.Filled.{get_d_filled}
+use Rattle.gray_theory.proofs.WordRanges.{digit_ranged}
+use Rattle.gray_theory.proofs.Sizes.{radix_two}
+use Rattle.gray_theory.proofs.Unlocked.{unlocked_two}
 use Rattle.ahead_theory.specs.States.{Walk, survey, moving_radices, open_check, in_range, Arrays}
-use Rattle.ahead_theory.specs.InRange.{Ranged, range_says, moving_known, producer_says, last_is_two}
+use Rattle.ahead_theory.proofs.InRange.{Ranged, range_says, moving_known, producer_says, last_is_two}
 use Rattle.ahead_theory.specs.Locals.{ToGo, Notch, Numbered}
-use Rattle.ahead_theory.specs.LocalCalls.{numbered}
+use Rattle.ahead_theory.proofs.LocalCalls.{numbered}
 use Rattle.stretch.specs.declared.Stage.{Stage}
 use Rattle.ahead.proofs.Ranges.{ranged_known, moving_most}
 use Rattle.ahead.specs.Stretches.{Wide, Loadable, LoadedOne, Loaded, CounterFits, CounterBack, WordFits, Target, Pending, WordBack, Unloads, Unloadable}

@@ -13,9 +13,9 @@ use Rattle.gray_theory.specs.Words.{is_word, rank}
 use Rattle.gray_theory.specs.Locks.{MovingDigits, moving_digits}
 use Rattle.gray_theory.specs.Calls.{rank_call}
 use Rattle.gray_theory.specs.Arrays.{digit_array}
-use Rattle.gray_theory.specs.Refusals.{given_same, limits_pass, passed, still_refused, openable_passes}
+use Rattle.gray_theory.proofs.Refusals.{given_same, limits_pass, passed, still_refused, openable_passes}
 use Rattle.gray_theory.specs.DirectedWords.{fresh_with}
-use Rattle.gray_theory.specs.WordRanges.{fresh_from_lent}
+use Rattle.gray_theory.proofs.WordRanges.{fresh_from_lent}
 use Rattle.gray_theory.specs.Engines.{refused_with, open_with}
 use Rattle.gray_theory.specs.Capacities.{Openable}
 use Rattle.gray.specs.Enums.{ranked_as}

@@ -12,18 +12,19 @@ use Rattle.gray_theory.specs.Answers.{given, refused, is_given}
 use Rattle.gray_theory.specs.Bools.{impossible}
 use Rattle.gray_theory.specs.Radices.{digits, size, all_from}
 use Rattle.gray_theory.specs.Locks.{moving_in_range, MovingSays}
-use Rattle.gray_theory.specs.Unlocked.{moving-says, unlocked_two, unlocked_most, all_unlocked, looked_up, number_direct, moving_looked_up}
+use Rattle.gray_theory.specs.Unlocked.{looked_up}
+use Rattle.gray_theory.proofs.Unlocked.{moving-says, unlocked_two, unlocked_most, all_unlocked, number_direct, moving_looked_up}
 use Rattle.gray_theory.specs.Directions.{all_below, digits_in_range}
-use Rattle.gray_theory.specs.DigitRanges.{all_below_same, tested_more}
+use Rattle.gray_theory.proofs.DigitRanges.{all_below_same, tested_more}
 use Rattle.gray_theory.specs.DirectedWords.{DirectedWord, survey_in, moving_in, word_in_range, Rooms}
-use Rattle.gray_theory.specs.WordRanges.{digit_there}
-use Rattle.gray_theory.specs.Reversals.{of_radices-reverse, size-reverse}
+use Rattle.gray_theory.proofs.WordRanges.{digit_there}
+use Rattle.gray_theory.proofs.Reversals.{of_radices-reverse, size-reverse}
 use Rattle.gray_theory.specs.Calls.{survey_call}
 use Rattle.gray_theory.specs.Capacities.{Openable}
-use Rattle.gray_theory.specs.Refusals.{openable_passes, survey_refused_alike, survey_call_given}
+use Rattle.gray_theory.proofs.Refusals.{openable_passes, survey_refused_alike, survey_call_given}
 use Rattle.ahead_theory.specs.States.{Walk, open_check, survey, moving_radices, places, is_place, counter_in_range, entries_in_range, producer_in_range, step_limit, in_range, Arrays}
-use Rattle.ahead_theory.specs.Openings.{openable}
-use Rattle.ahead_theory.specs.InRange.{Ranged, range_says, producer_says, survey_openable}
+use Rattle.ahead_theory.proofs.Openings.{openable}
+use Rattle.ahead_theory.proofs.InRange.{Ranged, range_says, producer_says, survey_openable}
 use Rattle.ahead.specs.Stages.{DigitNumbers, MovingNumbers, moving_of, Survey, Known}
 
 -- ---- a state whose survey and digits that move are tested

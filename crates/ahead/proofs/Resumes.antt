@@ -11,21 +11,21 @@ use lib.ListN.{length, take, replicate, length-reverse}
 use Rattle.gray_theory.specs.Answers.{given, refusing}
 use Rattle.gray_theory.specs.Radices.{digits, size, mixed_digits}
 use Rattle.gray_theory.specs.Words.{is_word, rank}
-use Rattle.gray_theory.specs.Ranks.{rank_below}
-use Rattle.gray_theory.specs.Digits.{word_long}
+use Rattle.gray_theory.proofs.Ranks.{rank_below}
+use Rattle.gray_theory.proofs.Digits.{word_long}
 use Rattle.gray_theory.specs.Indexed.{downs_at}
 use Rattle.gray_theory.specs.Arrays.{digit_array, filled}
-use Rattle.gray_theory.specs.Filled.{digit_array_lem, take-filled}
+use Rattle.gray_theory.proofs.Filled.{digit_array_lem, take-filled}
 use Rattle.gray_theory.specs.Locks.{MovingDigits, unlocked, moving_digits, moving_in_range}
-use Rattle.gray_theory.specs.Unlocked.{size-unlocked, unlocked_most, says-moving, moving_stored}
+use Rattle.gray_theory.proofs.Unlocked.{size-unlocked, unlocked_most, says-moving, moving_stored}
 use Rattle.gray_theory.specs.Engines.{open_with}
 use Rattle.gray_theory.specs.Capacities.{Openable}
-use Rattle.gray_theory.specs.WordRanges.{array_whole, moving_whole}
-use Rattle.gray_theory.specs.Refusals.{openable_passes}
+use Rattle.gray_theory.proofs.WordRanges.{array_whole, moving_whole}
+use Rattle.gray_theory.proofs.Refusals.{openable_passes}
 use Rattle.ahead_theory.specs.States.{Walk}
-use Rattle.ahead_theory.specs.Counters.{length-mixed_digits}
+use Rattle.ahead_theory.proofs.Counters.{length-mixed_digits}
 use Rattle.ahead_theory.specs.Pickups.{filled_at, downs_from_start, standing, picked_up, resume_of}
-use Rattle.ahead_theory.specs.PickedUp.{downs_from_start_lem}
+use Rattle.ahead_theory.proofs.PickedUp.{downs_from_start_lem}
 use Rattle.ahead.specs.Pickups.{RankedWord, unfilled_with, Unfilled, filled_ahead}
 use Rattle.ahead.proofs.Openings.{few_digits}
 use Rattle.ahead.proofs.Stands.{zero-filled}

@@ -14,13 +14,13 @@ use lib.ListN.{length, get_or, take, drop, set, replicate, length-append, drop_o
 use lib.Seq.{length-take-le, drop-cons, append_snoc}
 use Rattle.gray_theory.specs.Radices.{mixed_digits}
 use Rattle.gray_theory.specs.Words.{even, is_word, reflect, rank}
-use Rattle.gray_theory.specs.Digits.{is_word-length}
-use Rattle.gray_theory.specs.Ranks.{reflect_below}
-use Rattle.gray_theory.specs.Increments.{even-suc}
+use Rattle.gray_theory.proofs.Digits.{is_word-length}
+use Rattle.gray_theory.proofs.Ranks.{reflect_below}
+use Rattle.gray_theory.proofs.Increments.{even-suc}
 use Rattle.gray_theory.specs.Arrays.{filled}
-use Rattle.gray_theory.specs.Filled.{filled-append, length-filled}
+use Rattle.gray_theory.proofs.Filled.{filled-append, length-filled}
 use Rattle.gray_theory.specs.Locks.{MovingDigits, unlocked}
-use Rattle.gray_theory.specs.Unlocked.{Lock, Lock.free, Lock.locked, lock}
+use Rattle.gray_theory.proofs.Unlocked.{Lock, Lock.free, Lock.locked, lock}
 use Rattle.gray_theory.specs.Indexed.{downs_at}
 use Rattle.ahead.specs.Pickups.{RankedWord, Standable, Stood, unfilled_with}
 

@@ -9,17 +9,17 @@ use lib.Dec.{eqb}
 use lib.ListN.{length, get_or, set, take, drop, length-map, get_or-append}
 use lib.Seq.{length-take-le, get_or-take, get_or_at}
 use Rattle.gray_theory.specs.Answers.{given}
-use Rattle.gray_theory.specs.Unlocked.{looked_up_at}
+use Rattle.gray_theory.proofs.Unlocked.{looked_up_at}
 use Rattle.gray_theory.specs.DirectedWords.{DirectedWord}
 use Rattle.gray_theory.specs.Engines.{Event, moved, ended, refused_with}
 use Rattle.digit.specs.Advances.{advanced_from}
-use Rattle.digit.specs.DirectedMoves.{written_is_moved, written_is_named}
+use Rattle.digit.proofs.DirectedMoves.{written_is_moved, written_is_named}
 use Rattle.digit.specs.declared.Directed.{Directed}
 use Rattle.ahead_theory.specs.States.{Producer, Walk, moving_radices, places, open_check, in_range, Arrays}
 use Rattle.ahead_theory.specs.Work.{count_at, radix_at, run_out, done, work}
 use Rattle.ahead_theory.specs.Calls.{twice, course, removing, dequeued, end_of, move_of, step_by, step_of}
-use Rattle.ahead_theory.specs.InRange.{place_two, producer_says, runs_out, carries_on, appends_one, stays_full, count_grows, Ranged, survey_openable, moving_known, Reached, reached_more}
-use Rattle.ahead_theory.specs.Kept.{goes_faulty, goes_over, goes_dry, goes_removing, removes_last, removes_digit, entry_digit}
+use Rattle.ahead_theory.proofs.InRange.{place_two, producer_says, runs_out, carries_on, appends_one, stays_full, count_grows, Ranged, survey_openable, moving_known, Reached, reached_more}
+use Rattle.ahead_theory.proofs.Kept.{goes_faulty, goes_over, goes_dry, goes_removing, removes_last, removes_digit, entry_digit}
 use Rattle.ahead.specs.declared.Progress.{Progress}
 use Rattle.ahead.specs.Structs.{producer_with}
 use Rattle.ahead.specs.Stages.{MovingNumbers, moving_of, Survey, Workable, DigitToMove}

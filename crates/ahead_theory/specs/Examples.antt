@@ -1,54 +1,19 @@
 -- Computed examples: one walk picked up in mid-list, with every field of its state; and made-up states, which hold the range
 -- rule and the rules of a call to document 01 where the theorems about whole walks do not reach. Lists have digit 1 first.
-use Rattle.std.specs.Prelude.{ℕ, ◌≡◌, refl, Bool, true, false, List, [], ◌∷◌, ◌++◌, map}
+use Rattle.std.specs.Prelude.{ℕ, ◌≡◌, Bool, true, false, List, [], ◌∷◌, ◌++◌, map}
 use Rattle.gray_theory.specs.Answers.{given}
-use Rattle.gray_theory.specs.Radices.{size, mixed_digits, all_from}
-use Rattle.gray_theory.specs.Words.{is_word, rank}
 use Rattle.gray_theory.specs.Arrays.{filled}
-use Rattle.gray_theory.specs.Locks.{unlocked, moving, moving_in_range}
-use Rattle.gray_theory.specs.Directions.{all_below}
-use Rattle.gray_theory.specs.DirectedWords.{DirectedWord, word_in_range, digit_moved}
-use Rattle.gray_theory.specs.Engines.{moved, ended, refused_with, after}
-use Rattle.ahead_theory.specs.States.{Producer, Walk, producer_in_range, in_range}
-use Rattle.ahead_theory.specs.Work.{carry, append, idle, kind, done, work}
-use Rattle.ahead_theory.specs.Calls.{fresh, closed_walk, course, dequeued, end_of, move_of, step_of}
+use Rattle.gray_theory.specs.Locks.{moving}
+use Rattle.gray_theory.specs.DirectedWords.{DirectedWord}
+use Rattle.gray_theory.specs.Engines.{moved, ended, refused_with}
+use Rattle.ahead_theory.specs.States.{Producer, Walk, in_range}
+use Rattle.ahead_theory.specs.Work.{carry, append, idle, kind, work}
+use Rattle.ahead_theory.specs.Calls.{course, step_of}
 use Rattle.ahead_theory.specs.Events.{events_by}
-use Rattle.ahead_theory.specs.Pickups.{fillable, fill, picked_up, resume_of}
-
--- ---- a walk that is picked up
--- the survey 2, 1, 3, whose sluice 2 is locked, at 0 0 2, of rank 2 in 6, with two places: sluice 1 is at its top and goes
--- down; entries 3 and 4 are the second that moves and the first; the counter stands at 4
-pub middle_of_2_1_3 : resume_of closed_walk (2 ∷ 1 ∷ 3 ∷ []) 2 (0 ∷ 0 ∷ 2 ∷ []) ≡ record {
-  state =
-      record {
-        directed =
-            record {
-              radices = filled 48 0 (3 ∷ 1 ∷ 2 ∷ []);
-              n = 3;
-              moving = record { digits = filled 48 0 (1 ∷ 3 ∷ []); count = 2 };
-              word = filled 48 0 (2 ∷ 0 ∷ 0 ∷ []);
-              downs = filled 48 false (true ∷ []);
-            };
-        producer =
-            record {
-              counter = filled 49 0 (1 ∷ 1 ∷ 0 ∷ []);
-              place = 1;
-              queue = filled 32 0 (2 ∷ 1 ∷ []);
-              queued = 2;
-              steps = 0;
-            };
-        capacity = 2;
-        moves = 2;
-        ended = false;
-      };
-  answer = given tt;
-}
-unfolding resume_of picked_up size all_from is_word rank unlocked moving all_below kind done fresh mixed_digits fillable fill after step_of course dequeued end_of move_of digit_moved producer_in_range in_range word_in_range moving_in_range
-middle_of_2_1_3 = refl
 
 -- ---- states of that survey, which has N = 6, two digits that move and a third place for the end
 -- the digits at notches 1, 0, 1 (digit 1 first), digit 3 at its top and going down
-abbrev word : DirectedWord
+abbrev pub word : DirectedWord
 word = record {
   radices = filled 48 0 (3 ∷ 1 ∷ 2 ∷ []);
   n = 3;
@@ -65,7 +30,7 @@ made counts i entries queued s =
 abbrev walk_on : DirectedWord → Producer → ℕ → ℕ → Bool → Walk
 walk_on d p c j over = record { directed = d; producer = p; capacity = c; moves = j; ended = over }
 
-abbrev walk : Producer → ℕ → ℕ → Bool → Walk
+abbrev pub walk : Producer → ℕ → ℕ → Bool → Walk
 walk p c j over = walk_on word p c j over
 
 -- ---- the range rule
@@ -116,20 +81,6 @@ pub record WalkRange : Type 0 where
   pub steps_in_range : map (stepped 0 false) (0 ∷ 1 ∷ []) ++ map (stepped 2 false) (4 ∷ 5 ∷ []) ≡ true ∷ false ∷ true ∷ false ∷ []
   pub steps_in_range_once_ended : map (stepped 0 true) (2 ∷ 3 ∷ []) ++ map (stepped 2 true) (6 ∷ 7 ∷ []) ≡ true ∷ false ∷ true ∷ false ∷ []
 
-pub walk_range_at_its_bounds : WalkRange
-unfolding size all_from unlocked moving all_below producer_in_range in_range word_in_range moving_in_range
-walk_range_at_its_bounds = record {
-  words_in_range = refl;
-  counts_in_range = refl;
-  places_in_range = refl;
-  entries_in_range_lem = refl;
-  queues_in_range = refl;
-  capacities_in_range = refl;
-  moves_in_range = refl;
-  steps_in_range = refl;
-  steps_in_range_once_ended = refl;
-}
-
 -- ---- work steps, with two places
 pub record WorkSteps : Type 0 where
   -- at a count below m − 1 a work step appends, or is idle where the queue is full; at m − 1 it carries, whether the queue is
@@ -150,13 +101,6 @@ pub record WorkSteps : Type 0 where
   pub work-done : map (work (3 ∷ 2 ∷ []) 2)
       (made (2 ∷ 1 ∷ 1 ∷ []) 1 (3 ∷ 1 ∷ []) 2 4 ∷ made (1 ∷ 0 ∷ 1 ∷ []) 2 (3 ∷ []) 1 4 ∷ made (1 ∷ 1 ∷ 1 ∷ []) 3 (3 ∷ []) 1 4 ∷ [])
       ≡ made (0 ∷ 1 ∷ 1 ∷ []) 2 (3 ∷ 1 ∷ []) 2 5 ∷ made (1 ∷ 1 ∷ 1 ∷ []) 1 (3 ∷ 2 ∷ []) 2 5 ∷ made (1 ∷ 1 ∷ 1 ∷ []) 3 (3 ∷ []) 1 4 ∷ []
-
-pub work_on_made-up_states : WorkSteps
-unfolding kind done
-work_on_made-up_states = record {
-  kinds_of_work = refl;
-  work-done = refl;
-}
 
 -- ---- calls
 -- entry 2, which is digit 3, at j = N − 1: it goes down to 0 and turns. The two work steps carry, and append
@@ -193,15 +137,3 @@ pub record MadeUpCalls : Type 0 where
   pub faulty_gets_7 : step_of faulty ≡ refused_with 7 faulty
   -- the work steps that count: those of the call that moved, in their order, and none of the other three
   pub work_that_counts : map (λ w. events_by w (course w)) (last ∷ empty ∷ over ∷ faulty ∷ []) ≡ (carry ∷ append ∷ []) ∷ [] ∷ [] ∷ [] ∷ []
-
-pub made-up_walks_are_stepped : MadeUpCalls
-unfolding size all_from unlocked moving all_below producer_in_range in_range word_in_range moving_in_range kind done step_of course dequeued end_of move_of digit_moved
-made-up_walks_are_stepped = record {
-  ends_at_its_entry = refl;
-  moves_at_the_last-rank = refl;
-  gets_7_past_it = refl;
-  dry_at_an_empty_queue = refl;
-  ended_stays = refl;
-  faulty_gets_7 = refl;
-  work_that_counts = refl;
-}

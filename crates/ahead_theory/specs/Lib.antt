@@ -9,31 +9,15 @@ pub mod Pickups
 -- what is promised of whole runs, and the theorems
 pub mod Demand
 pub mod GoingOn
-pub mod WorkAhead
-pub mod PickedUp
 pub mod Examples
-pub mod Openings
 pub mod Kept
 -- the run: its numbers and their invariants, the states that follow from them, one call, the events, the phases, the clauses
 pub mod Positions
 pub mod Canonical
-pub mod RunRanges
 pub mod Rounds
-pub mod Capacity
-pub mod Standing
-pub mod Tallies
-pub mod Phases
-pub mod Clauses
 -- laws
-pub mod Entries
 pub mod Counters
-pub mod InRange
 pub mod Filling
-pub mod FillLaws
 -- a run of moves on local arrays: its model, what it leaves undone, and that it is the engine's
 pub mod Locals
 pub mod Stretches
-pub mod LocalWork
-pub mod LocalMoves
-pub mod LocalCalls
-pub mod LocalRuns

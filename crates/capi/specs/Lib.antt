@@ -5,6 +5,4 @@ pub mod Encoding
 -- theorems
 pub mod Told
 pub mod TellsApart
-pub mod RunsTellApart
 -- laws
-pub mod Checked

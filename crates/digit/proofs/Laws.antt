@@ -16,14 +16,15 @@ use mir.Val.{bool_byte}
 use Rattle.gray_theory.specs.MoveBytes.{move_byte, move_digit, move_down}
 use Rattle.gray_theory.specs.Radices.{digits}
 use Rattle.gray_theory.specs.Directions.{moved_from, turned_at, digit_in_range, all_below}
-use Rattle.digit.specs.Advances.{advanced_from, digit_advanced, digit_stays}
+use Rattle.digit.specs.Advances.{advanced_from}
+use Rattle.digit.proofs.Advances.{digit_advanced, digit_stays}
 use Rattle.digit.specs.declared.Met.{Met}
 use Rattle.digit.specs.Moving.{count_more, digits_more, found_more}
 use Rattle.gray_theory.specs.Locks.{moving, MovingDigits, moving_in_range}
-use Rattle.gray_theory.specs.Unlocked.{length-moving, unlocked_most, moving_more, found_at, found_more_lem, found_in_range}
-use Rattle.gray_theory.specs.DigitRanges.{digit_says}
+use Rattle.gray_theory.proofs.Unlocked.{length-moving, unlocked_most, moving_more, found_at, found_more_lem, found_in_range}
+use Rattle.gray_theory.proofs.DigitRanges.{digit_says}
 use Rattle.gray_theory.specs.Arrays.{filled}
-use Rattle.gray_theory.specs.Filled.{fill_all, filled_whole, length-filled, filled-append}
+use Rattle.gray_theory.proofs.Filled.{fill_all, filled_whole, length-filled, filled-append}
 use Rattle.gray_theory.specs.Bools.{impossible}
 
 -- ---- move bytes

@@ -1,4 +1,3 @@
 -- What needs this crate's types.
 pub mod Advances
 pub mod Moving
-pub mod DirectedMoves

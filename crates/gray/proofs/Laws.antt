@@ -14,8 +14,9 @@ use lib.Seq.{take_all, take-add, drop-cons, lt-length-set, get_or-set_same, drop
 use Rattle.gray_theory.specs.Answers.{given, refused}
 use Rattle.gray_theory.specs.Radices.{digits, bytes, size, all_from, wrong_count}
 use Rattle.gray_theory.specs.Calls.{size_call, rank_call, word_call}
-use Rattle.gray_theory.specs.Faults.{Fault.count, Fault.radix, Fault.many, Fault.none, lowest_fault_is_given}
-use Rattle.gray_theory.specs.Refusals.{accepted, radices_accepted}
+use Rattle.gray_theory.specs.Faults.{Fault.count, Fault.radix, Fault.many, Fault.none}
+use Rattle.gray_theory.proofs.Faults.{lowest_fault_is_given}
+use Rattle.gray_theory.proofs.Refusals.{accepted, radices_accepted}
 use Rattle.gray.specs.Stages.{product_as, Multiplied, digit_as, two_as, pair_as, place_as}
 use Rattle.gray.specs.declared.Place.{Place}
 use Rattle.gray.specs.declared.Place.TheVariants.{At, NoWord}
@@ -24,11 +25,12 @@ use Rattle.gray.specs.declared.Product.{Product}
 use Rattle.gray.specs.declared.Product.TheVariants.{Within, Over}
 use Rattle.gray_theory.specs.Words.{is_word, reflect, rank, member}
 use Rattle.gray_theory.specs.Indexed.{word_at}
-use Rattle.gray_theory.specs.Members.{member_is_word_at, length-word_at}
-use Rattle.gray_theory.specs.Digits.{digits_more_lem, size_taken}
-use Rattle.gray_theory.specs.Ranking.{two_as_one, two_below, below_more, below_all, rank_more, rank_all, not_below, word_refused, word_ranked}
-use Rattle.gray_theory.specs.Sizes.{size-append, size_pos, size_none}
-use Rattle.gray_theory.specs.Bools.{impossible, never_true, never_false}
+use Rattle.gray_theory.proofs.Members.{member_is_word_at, length-word_at}
+use Rattle.gray_theory.proofs.Digits.{digits_more_lem, size_taken}
+use Rattle.gray_theory.proofs.Ranking.{two_as_one, two_below, below_more, below_all, rank_more, rank_all, not_below, word_refused, word_ranked}
+use Rattle.gray_theory.proofs.Sizes.{size-append, size_pos, size_none}
+use Rattle.gray_theory.specs.Bools.{impossible}
+use Rattle.gray_theory.proofs.Bools.{never_true, never_false}
 
 -- ---- none_zero
 pub tested_more : (k : ℕ) (l : List ℕ) (i : ℕ) (ok : Bool)

@@ -4,6 +4,5 @@
 -- definitions
 pub mod Enums
 -- laws
-pub mod Passing
 -- what private functions answer
 pub mod Stages

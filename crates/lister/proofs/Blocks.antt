@@ -14,7 +14,7 @@ use Rattle.gray_theory.specs.Words.{even, upward, downward}
 use Rattle.lister_theory.specs.Listers.{blocks, listing}
 use Rattle.gray_theory.specs.Places.{placed}
 use Rattle.lister.specs.Outputs.{window, laid, notch_after, Reached, RowRoom, Listed}
-use Rattle.lister_theory.specs.Reflections.{length-listing}
+use Rattle.lister_theory.proofs.Reflections.{length-listing}
 use Rattle.lister.proofs.Windows.{window-append, window-none, window-past, one_word, window-map, length-window}
 use Rattle.lister.proofs.Windows.{blocks-append, Each, each_window, each_blocks, each_listing}
 use Rattle.lister.proofs.Windows.{laid_none, laid_word, laid-append, laid-after}

@@ -9,12 +9,13 @@ use mathlib.Core.List.{List, [], ◌∷◌, ◌++◌, map, flatten, append_assoc
 use lib.ListN.{length, get_or, take, drop, length-append, length-drop, get_or-map}
 use lib.Seq.{length-take-le, take_all, take-suc, get_or-drop}
 use Rattle.gray_theory.specs.Radices.{size}
-use Rattle.gray_theory.specs.Members.{get_d_upward, get_d_downward}
+use Rattle.gray_theory.proofs.Members.{get_d_upward, get_d_downward}
 use Rattle.gray_theory.specs.Words.{even, upward, downward}
 use Rattle.lister_theory.specs.Listers.{blocks, listing}
 use Rattle.lister.specs.Outputs.{window, laid, notch_after, RowRoom}
-use Rattle.lister_theory.specs.Reflections.{length-listing}
-use Rattle.gray_theory.specs.Places.{placed, placed-none, length-placed, placed-append}
+use Rattle.lister_theory.proofs.Reflections.{length-listing}
+use Rattle.gray_theory.specs.Places.{placed}
+use Rattle.gray_theory.proofs.Places.{placed-none, length-placed, placed-append}
 use Rattle.lister.proofs.Windows.{flatten-append}
 
 -- ---- the words of one digit

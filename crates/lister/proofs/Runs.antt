@@ -10,15 +10,15 @@ use lib.Dec.{ltb}
 use lib.ListN.{length, drop}
 use Rattle.gray_theory.specs.Answers.{given, refused, refusing, fitting, Wrote}
 use Rattle.gray_theory.specs.Radices.{digits, bytes, size, all_from}
-use Rattle.gray_theory.specs.Reversals.{size-reverse}
+use Rattle.gray_theory.proofs.Reversals.{size-reverse}
 use Rattle.gray_theory.specs.Words.{list}
 use Rattle.gray_theory.specs.Calls.{size_call}
-use Rattle.gray_theory.specs.Refusals.{accepted, radices_accepted, survey-size, survey_one, wrote_bytes}
+use Rattle.gray_theory.proofs.Refusals.{accepted, radices_accepted, survey-size, survey_one, wrote_bytes}
 use Rattle.lister_theory.specs.Calls.{words_from, list_call}
 use Rattle.lister_theory.specs.Listers.{listing}
 use Rattle.gray_theory.specs.Places.{placed}
 use Rattle.lister.specs.Outputs.{window, laid, Sized, Reached}
-use Rattle.lister_theory.specs.Reflections.{upward_lister_lists_the_list, length-listing}
+use Rattle.lister_theory.proofs.Reflections.{upward_lister_lists_the_list, length-listing}
 use Rattle.lister.proofs.Windows.{window-map, length-window, each_window, each_listing, length-laid}
 
 -- the bytes that are owed

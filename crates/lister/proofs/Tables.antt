@@ -9,7 +9,7 @@ use mathlib.Core.List.{List, ◌∷◌}
 use lib.ListN.{length, get_or, take, drop, set, length-set, take-append-drop}
 use lib.Seq.{drop-length, drop-cons, get_or-set_same, get_or-set_other}
 use Rattle.gray_theory.specs.Radices.{size, all_from}
-use Rattle.gray_theory.specs.Sizes.{all_from-take, size-append, size_pos}
+use Rattle.gray_theory.proofs.Sizes.{all_from-take, size-append, size_pos}
 use Rattle.lister.specs.Outputs.{Sized}
 
 -- the entries from i on are there, and q is the number of words of the digits from i on

@@ -9,7 +9,8 @@ use lib.ListN.{length, take, drop, length-append, length-drop, drop_of_length-le
 use lib.Seq.{take-nil, append_snoc}
 use Rattle.lister_theory.specs.Listers.{blocks, listing}
 use Rattle.lister.specs.Outputs.{window, laid}
-use Rattle.gray_theory.specs.Places.{placed, placed-none, placed-append}
+use Rattle.gray_theory.specs.Places.{placed}
+use Rattle.gray_theory.proofs.Places.{placed-none, placed-append}
 use Rattle.gray_theory.specs.Words.{even, upward, downward}
 
 -- ---- the window

@@ -4,8 +4,4 @@
 pub mod Listers
 pub mod Calls
 -- theorems
-pub mod WordsFrom
-pub mod Reflections
-pub mod Examples
 -- the list backward, and with one digit more at its slow end
-pub mod Reversing

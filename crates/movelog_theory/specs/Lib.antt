@@ -6,10 +6,4 @@ pub mod Shapes
 pub mod Calls
 -- theorems
 pub mod ShapedExactly
-pub mod Accepted
-pub mod RoundTrips
-pub mod Examples
 -- laws
-pub mod Lengths
-pub mod Sames
-pub mod Parsing

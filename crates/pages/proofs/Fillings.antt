@@ -11,10 +11,10 @@ use lib.Seq.{take_all, take_at, drop_at, drop-drop, length-take-le}
 use Rattle.gray_theory.specs.Answers.{Answer, given, refused, Wrote}
 use Rattle.ahead_theory.specs.States.{setting}
 use Rattle.text_theory.specs.Lines.{line_call}
-use Rattle.text_theory.specs.Fits.{LineWritten, line_written, line_refused}
+use Rattle.text_theory.proofs.Fits.{LineWritten, line_written, line_refused}
 use Rattle.pages_theory.specs.Pages.{Printing, text_of, is_last, behind, Page, joined, page_of, filling}
-use Rattle.pages_theory.specs.Lengths.{line_some}
-use Rattle.pages_theory.specs.PageLaws.{page_full, page_last, page_more}
+use Rattle.pages_theory.proofs.Lengths.{line_some}
+use Rattle.pages_theory.proofs.PageLaws.{page_full, page_last, page_more}
 
 -- ---- a line behind the first `used` bytes of a page
 -- the part that is lent is all that is left

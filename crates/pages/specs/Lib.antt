@@ -3,4 +3,3 @@
 -- definitions
 pub mod Structs
 -- theorems
-pub mod Whole

@@ -4,9 +4,4 @@
 -- definitions
 pub mod Pages
 -- theorems
-pub mod Printed
-pub mod Examples
 -- laws
-pub mod Lengths
-pub mod WalkLines
-pub mod PageLaws

@@ -1,2 +1,4 @@
 pub mod Numbers
 pub mod Readings
+pub mod Examples
+pub mod Reading

@@ -4,7 +4,5 @@
 pub mod Parsing
 pub mod Readers
 -- theorems
-pub mod Reading
-pub mod Examples
 -- what private functions answer
 pub mod Stages

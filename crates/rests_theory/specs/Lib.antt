@@ -3,9 +3,4 @@
 -- definitions
 pub mod Rests
 -- theorems
-pub mod RunRests
-pub mod EngineRests
 -- laws
-pub mod Along
-pub mod Multiples
-pub mod Products

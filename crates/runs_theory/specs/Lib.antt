@@ -4,4 +4,3 @@
 pub mod MoveCalls
 -- theorems
 pub mod Agree
-pub mod Resumed

@@ -7,7 +7,8 @@ use borrow.Author.Tests.{eq-eqb, ne_eqb}
 use lib.ListN.{length, get_or}
 use Rattle.ahead_theory.specs.Locals.{Fast, left_moved, bytes_moved, fast_work, fast_twice, fast_call}
 use Rattle.ahead_theory.specs.Locals as theory
-use Rattle.ahead_theory.specs.Stretches.{backed, Undone, dry_undone, Kept, work-kept, twice-kept}
+use Rattle.ahead_theory.specs.Stretches.{backed, Undone}
+use Rattle.ahead_theory.proofs.Stretches.{dry_undone, Kept, work-kept, twice-kept}
 use Rattle.stretch.specs.declared.Stage.{Stage}
 use Rattle.stretch.specs.Stages.{fast_of, called_as, FastWorkable, FastMovable, Moves, FastCallable}
 

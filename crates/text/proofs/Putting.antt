@@ -12,12 +12,13 @@ use lib.Dec.{eqb}
 use lib.ListN.{length, get_or, take, drop, set, length-append, length-set, drop_of_length-le}
 use lib.Seq.{take-suc, take_all, take_at, drop-cons, get_or-take, length-take-le}
 use Rattle.gray_theory.specs.Answers.{given, refused, Wrote}
-use Rattle.gray_theory.specs.Refusals.{wrote_nothing, wrote_bytes}
-use Rattle.gray_theory.specs.Places.{placed, placed-none, placed-set, placed-append}
+use Rattle.gray_theory.proofs.Refusals.{wrote_nothing, wrote_bytes}
+use Rattle.gray_theory.specs.Places.{placed}
+use Rattle.gray_theory.proofs.Places.{placed-none, placed-set, placed-append}
 use Rattle.text_theory.specs.Ascii.{ascii}
 use Rattle.text_theory.specs.Decimals.{glyph, decimal}
 use Rattle.text_theory.specs.Lines.{point_after, setting_text, line_text, line_call}
-use Rattle.text_theory.specs.Numerals.{decimal_below_ten, decimal_from_ten, decimal-not-empty}
+use Rattle.text_theory.proofs.Numerals.{decimal_below_ten, decimal_from_ten, decimal-not-empty}
 use Rattle.text_theory.specs.declared.Line.{Line}
 use Rattle.text.specs.Stages.{Put}
 

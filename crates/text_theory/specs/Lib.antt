@@ -7,8 +7,4 @@ pub mod Surveys
 pub mod Lines
 pub mod Output
 -- theorems
-pub mod Numerals
-pub mod Kept
-pub mod Examples
 -- laws
-pub mod Fits

@@ -1,16 +1,13 @@
 -- All that the program `walk` prints for an input (document 01), and document 01's example in full. Its moves are the list's: that the
 -- buffered engine makes just these is `fresh_walks_work_ahead` of `ahead_theory`.
-use Rattle.std.specs.Prelude.{ℕ, zero, suc, ◌-◌, ◌≡◌, refl, cond, List, [], ◌++◌}
+use Rattle.std.specs.Prelude.{ℕ, zero, suc, ◌-◌, cond, List, [], ◌++◌}
 use Rattle.gray_theory.specs.Answers.{Answer, given, refused}
 use Rattle.gray_theory.specs.Radices.{digits}
-use Rattle.gray_theory.specs.Words.{member, list, upward, downward, notches, through}
-use Rattle.gray_theory.specs.Changes.{change, difference}
-use Rattle.gray_theory.specs.Radices.{size, all_from}
+use Rattle.gray_theory.specs.Words.{member}
+use Rattle.gray_theory.specs.Changes.{change}
 use Rattle.gray_theory.specs.Calls.{size_call}
-use Rattle.text_theory.specs.Ascii.{ascii}
-use Rattle.text_theory.specs.Decimals.{decimal_in, decimal, all_digits, value_from, is_number}
-use Rattle.text_theory.specs.Surveys.{Input, counts, unread, input_as, line_as, first_line, has_newline, fields, is_count, all_counts}
-use Rattle.text_theory.specs.Lines.{setting_text, line_text, is_long, survey_line}
+use Rattle.text_theory.specs.Surveys.{Input, counts, unread, input_as}
+use Rattle.text_theory.specs.Lines.{line_text, is_long, survey_line}
 use Rattle.text_theory.specs.declared.Line.TheVariants.{Unread, Start, Moved, End}
 
 -- the lines of t moves, the first of them change j
@@ -36,10 +33,3 @@ input_text (counts radices) = survey_text radices (size_call radices)
 -- the whole output
 unfoldable pub output : List ℕ → List ℕ
 output input = input_text (input_as input)
-
--- document 01: input `2 3` prints in full
-pub walk_of_2_3 :
-    output (ascii "2 3\n")
-    ≡ ascii "sluices 2 settings 6\n0 0.0 start\n1 0.1 1 up\n2 0.2 1 up\n3 1.2 2 up\n4 1.1 1 down\n5 1.0 1 down\nend 5\n"
-unfolding output input_text survey_text survey_line walk_text move_lines line_text setting_text decimal decimal_in input_as line_as first_line has_newline fields is_count all_counts is_number all_digits value_from size_call size all_from list through notches upward downward difference
-walk_of_2_3 = refl

@@ -13,8 +13,8 @@ use Rattle.gray_theory.specs.Bools.{impossible}
 use Rattle.tides_theory.specs.Lines.{high_letter, lines_in, notice_in, is_line, all_lines}
 use Rattle.tides_theory.specs.Windows.{Tide, tide_of, follows, in_order, Window, window_of, windows, allows, any_allows}
 use Rattle.tides_theory.specs.Calls.{tides_in, windows_in}
-use Rattle.tides_theory.specs.Chunks.{line_length, line_in_front, lines_make_the_file, no_line_in_front}
-use Rattle.tides_theory.specs.Few.{minute_of_a_line}
+use Rattle.tides_theory.proofs.Chunks.{line_length, line_in_front, lines_make_the_file, no_line_in_front}
+use Rattle.tides_theory.proofs.Few.{minute_of_a_line}
 use Rattle.tides.specs.Stages.{day_of, Right, tide_in, letter_of, line_as, fresh_course, closes, course_then, passing}
 use Rattle.tides.specs.declared.line.Day.{Day}
 use Rattle.tides.specs.declared.line.Line.TheVariants.{Tide as LineTide, Unread}

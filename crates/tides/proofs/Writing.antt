@@ -13,8 +13,8 @@ use Rattle.gray_theory.specs.Bools.{impossible}
 use Rattle.tides_theory.specs.Lines.{low_letter, lines_in, notice_in, is_line, all_lines}
 use Rattle.tides_theory.specs.Windows.{Tide, tide_of, follows, in_order, Window, window_of, windows, no_window, moves_that_fit}
 use Rattle.tides_theory.specs.Calls.{tides_in, windows_in, Accepted}
-use Rattle.tides_theory.specs.Few.{minute_of_a_line}
-use Rattle.tides_theory.specs.Chunks.{line_length, line_in_front, no_line_in_front}
+use Rattle.tides_theory.proofs.Few.{minute_of_a_line}
+use Rattle.tides_theory.proofs.Chunks.{line_length, line_in_front, no_line_in_front}
 use Rattle.tides.specs.Stages.{tide_in, letter_of, first_high}
 use Rattle.tides.proofs.line.Readings.{line_letter}
 

@@ -11,13 +11,14 @@ use borrow.Author.Tests.{eq-eqb, ne_eqb, eqb-true, leb-true, lt-ltb, le-ltb}
 use lib.Dec.{eqb, leb}
 use Rattle.gray_theory.specs.Bools.{impossible}
 use Rattle.gray_theory.specs.Directions.{moved_from, turned_at, digit_in_range}
-use Rattle.gray_theory.specs.DigitRanges.{digit_says}
-use Rattle.digit.specs.Advances.{advanced_from, digit_advanced}
+use Rattle.gray_theory.proofs.DigitRanges.{digit_says}
+use Rattle.digit.specs.Advances.{advanced_from}
+use Rattle.digit.proofs.Advances.{digit_advanced}
 use Rattle.digit.proofs.Laws.{room_below, room_above}
 use Rattle.towers_theory.specs.Choices.{side_peg, on_pair, sweeping, smallest}
 use Rattle.towers_theory.specs.Calls.{turn_by, peg_after}
 use Rattle.towers.specs.Stages.{found}
-use Rattle.towers_theory.specs.Smallest.{smallest-none, smallest_some}
+use Rattle.towers_theory.proofs.Smallest.{smallest-none, smallest_some}
 
 -- ---- three pegs
 module _ (turn m a : ℕ) where

@@ -12,12 +12,12 @@ use Rattle.gray_theory.specs.Bools.{impossible}
 use Rattle.gray_theory.specs.Radices.{all_from}
 use Rattle.gray_theory.specs.Words.{even}
 use Rattle.gray_theory.specs.Locks.{unlocked}
-use Rattle.gray_theory.specs.Unlocked.{moving_digit, unlocked_two}
-use Rattle.gray_theory.specs.Sizes.{radix_two}
+use Rattle.gray_theory.proofs.Unlocked.{moving_digit, unlocked_two}
+use Rattle.gray_theory.proofs.Sizes.{radix_two}
 use Rattle.gray_theory.specs.Directions.{all_below}
-use Rattle.gray_theory.specs.DigitRanges.{all_below_each, each_all_below}
+use Rattle.gray_theory.proofs.DigitRanges.{all_below_each, each_all_below}
 use Rattle.towers_theory.specs.States.{all_odd, common, even_and_equal, all_even_and_equal}
-use Rattle.towers_theory.specs.InRange.{odd_by, common_by}
+use Rattle.towers_theory.proofs.InRange.{odd_by, common_by}
 use Rattle.towers.specs.Stages.{last_radix, plays}
 
 -- the test of the counts of the digits that move, as document 01 has it

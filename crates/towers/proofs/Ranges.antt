@@ -12,26 +12,26 @@ use Rattle.gray_theory.specs.Answers.{Answer, given, refused, refusing, is_given
 use Rattle.gray_theory.specs.Bools.{impossible}
 use Rattle.gray_theory.specs.Radices.{digits}
 use Rattle.gray_theory.specs.Locks.{MovingDigits, unlocked, moving_digits, moving_in_range}
-use Rattle.gray_theory.specs.Unlocked.{moving-says, says-moving, moving_stored, unlocked_most, unlocked_two}
-use Rattle.gray_theory.specs.Unlocked.{number_direct}
+use Rattle.gray_theory.proofs.Unlocked.{moving-says, says-moving, moving_stored, unlocked_most, unlocked_two}
+use Rattle.gray_theory.proofs.Unlocked.{number_direct}
 use Rattle.gray_theory.specs.Words.{even}
 use Rattle.gray_theory.specs.Arrays.{digit_array}
 use Rattle.gray_theory.specs.Directions.{all_below, digits_in_range}
 use Rattle.gray_theory.specs.Calls.{size_call}
 use Rattle.gray_theory.specs.DirectedWords.{fresh_with, word_in_range}
-use Rattle.gray_theory.specs.WordRanges.{DigitThere, digit_there, array_whole, fresh_from_lent}
+use Rattle.gray_theory.proofs.WordRanges.{DigitThere, digit_there, array_whole, fresh_from_lent}
 use Rattle.gray_theory.specs.Engines.{refused_with, open_with}
-use Rattle.gray_theory.specs.DigitRanges.{all_below_same}
-use Rattle.gray_theory.specs.Filled.{take-filled, length-filled}
+use Rattle.gray_theory.proofs.DigitRanges.{all_below_same}
+use Rattle.gray_theory.proofs.Filled.{take-filled, length-filled}
 use Rattle.gray_theory.specs.Radices.{Limits}
-use Rattle.gray_theory.specs.Refusals.{within_limits, limits_pass, accepted, given_unless}
-use Rattle.gray_theory.specs.Refusals.{radices_accepted, survey_refused, survey_accepted}
+use Rattle.gray_theory.proofs.Refusals.{within_limits, limits_pass, accepted, given_unless}
+use Rattle.gray_theory.proofs.Refusals.{radices_accepted, survey_refused, survey_accepted}
 use Rattle.towers_theory.specs.States.{Towers, common, wrong_counts, open_check, survey, disks, Arrays}
 use Rattle.towers_theory.specs.States.{turn_in_range, pegs_in_range, in_range}
 use Rattle.towers_theory.specs.Choices.{digit_of}
 use Rattle.towers_theory.specs.Calls.{fresh_on, fresh, open_of}
-use Rattle.towers_theory.specs.Openings.{openable}
-use Rattle.towers_theory.specs.InRange.{range_says}
+use Rattle.towers_theory.proofs.Openings.{openable}
+use Rattle.towers_theory.proofs.InRange.{range_says}
 use Rattle.towers.specs.Stages.{limits_check, survey_fits, last_radix, plays, DigitAt}
 use Rattle.towers.proofs.Plays.{playable_counts, counts_played, Leads, last_leads}
 

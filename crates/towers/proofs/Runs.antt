@@ -10,14 +10,16 @@ use Rattle.gray_theory.specs.Answers.{given}
 use Rattle.gray_theory.specs.Words.{even}
 use Rattle.gray_theory.specs.MoveBytes.{move_byte}
 use Rattle.gray_theory.specs.Engines.{Event, Handed, after}
-use Rattle.gray_theory.specs.Places.{placed, placed-none, placed-set, length-placed}
+use Rattle.gray_theory.specs.Places.{placed}
+use Rattle.gray_theory.proofs.Places.{placed-none, placed-set, length-placed}
 use Rattle.gray_theory.specs.RunCalls.{Stop, nothing, end, run_from}
-use Rattle.gray_theory.specs.RunLaws.{Moved, moved_none, moved_more, all_made, ends_there, run-made_by}
+use Rattle.gray_theory.specs.RunLaws.{Moved}
+use Rattle.gray_theory.proofs.RunLaws.{moved_none, moved_more, all_made, ends_there, run-made_by}
 use Rattle.digit.specs.Advances.{advanced_from}
 use Rattle.towers_theory.specs.States.{Towers, disks, in_range, Arrays}
 use Rattle.towers_theory.specs.Choices.{digit_of, chosen}
 use Rattle.towers_theory.specs.Calls.{turn_by, peg_after, step_of, run_of}
-use Rattle.towers_theory.specs.Kept.{range_kept, arrays_kept}
+use Rattle.towers_theory.proofs.Kept.{range_kept, arrays_kept}
 use Rattle.towers.specs.Stages.{found, last_radix, DigitMoved, state_of, Playing, Called}
 use Rattle.towers.proofs.Steps.{digit_fits, disk_moved, walk-over, moves_disk}
 

@@ -11,20 +11,20 @@ use lib.ListN.{length, get_or, set, take}
 use lib.Seq.{length-take-le, get_or-take, set-get_or}
 use Rattle.gray_theory.specs.Answers.{given}
 use Rattle.gray_theory.specs.Words.{even}
-use Rattle.gray_theory.specs.WordRanges.{DigitThere}
+use Rattle.gray_theory.proofs.WordRanges.{DigitThere}
 use Rattle.gray_theory.specs.Engines.{Event, moved, ended, refused_with}
 use Rattle.digit.specs.Advances.{advanced_from}
-use Rattle.digit.specs.DirectedMoves.{digit_moves, written_is_moved, written_is_named}
-use Rattle.towers_theory.specs.Canonical.{same_towers}
+use Rattle.digit.proofs.DirectedMoves.{digit_moves, written_is_moved, written_is_named}
+use Rattle.towers_theory.proofs.Canonical.{same_towers}
 use Rattle.digit.specs.declared.Directed.{Directed}
 use Rattle.towers_theory.specs.States.{Towers, all_odd, common, open_check, survey, disks, in_range, Arrays}
 use Rattle.towers_theory.specs.Choices.{side_peg, digit_of, peg_of, smallest, on_pair, sweeping, is_top, elsewhere}
 use Rattle.towers_theory.specs.Choices.{chosen_on_pair, chosen_on_ring, chosen}
 use Rattle.towers_theory.specs.Calls.{turn_by, turn_after, peg_after, pegs_after, move_of, move_by, step_of}
 use Rattle.towers.specs.Stages.{found, PairDisks, survey_fits, last_radix, DigitAt, Movable}
-use Rattle.towers_theory.specs.Smallest.{smallest_same, smallest-elsewhere_is_top}
-use Rattle.towers_theory.specs.Openings.{openable}
-use Rattle.towers_theory.specs.InRange.{Ranged, range_says, some_disk}
+use Rattle.towers_theory.proofs.Smallest.{smallest_same, smallest-elsewhere_is_top}
+use Rattle.towers_theory.proofs.Openings.{openable}
+use Rattle.towers_theory.proofs.InRange.{Ranged, range_says, some_disk}
 use Rattle.towers.proofs.Plays.{Leads}
 use Rattle.towers.proofs.Ranges.{Fits, says_fits, ranged_fits, disk_count, count_most, digit_of_lem, digit_at, leading}
 

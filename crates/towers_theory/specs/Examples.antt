@@ -1,17 +1,14 @@
 -- Computed examples: made-up states, which hold the range rule and the rules of a call to document 01 where the theorem about
 -- whole games does not reach; and refusals in their order. Lists have digit 1 first.
-use Rattle.std.specs.Prelude.{ℕ, ◌≡◌, refl, Bool, true, false, List, [], ◌∷◌, map, replicate}
+use Rattle.std.specs.Prelude.{ℕ, ◌≡◌, Bool, true, false, List, [], ◌∷◌, map}
 use Rattle.std.proofs.Math.Option.{none, some}
-use Rattle.gray_theory.specs.Answers.{given, refused}
-use Rattle.gray_theory.specs.Radices.{size, all_from}
+use Rattle.gray_theory.specs.Answers.{given}
 use Rattle.gray_theory.specs.Arrays.{filled}
-use Rattle.gray_theory.specs.Locks.{unlocked, moving, moving_in_range}
-use Rattle.gray_theory.specs.Directions.{all_below}
-use Rattle.gray_theory.specs.DirectedWords.{word_in_range, digit_moved, directed_on}
-use Rattle.gray_theory.specs.Engines.{moved, ended, refused_with}
-use Rattle.towers_theory.specs.States.{Towers, all_odd, all_even_and_equal, open_check, in_range}
+use Rattle.gray_theory.specs.DirectedWords.{directed_on}
+use Rattle.gray_theory.specs.Engines.{moved, ended}
+use Rattle.towers_theory.specs.States.{Towers, in_range}
 use Rattle.towers_theory.specs.Choices.{peg_of, smallest, chosen}
-use Rattle.towers_theory.specs.Calls.{move_of, step_of}
+use Rattle.towers_theory.specs.Calls.{step_of}
 
 -- ---- made-up states
 -- on a survey, with this word and these directions, turn and pegs
@@ -24,10 +21,10 @@ game ms word downs turn pegs = record {
 
 -- on the counts 5, 1, 3, and on 4, 1, 4, whose ring has pegs 0 to 4. Digit 2 is locked, so that disks 1 and 2 are those of
 -- digits 1 and 3
-abbrev on_three : List ℕ → List Bool → ℕ → List ℕ → Towers
+abbrev pub on_three : List ℕ → List Bool → ℕ → List ℕ → Towers
 on_three word downs turn pegs = game (5 ∷ 1 ∷ 3 ∷ []) word downs turn pegs
 
-abbrev on_ring : List ℕ → List Bool → ℕ → List ℕ → Towers
+abbrev pub on_ring : List ℕ → List Bool → ℕ → List ℕ → Towers
 on_ring word downs turn pegs = game (4 ∷ 1 ∷ 4 ∷ []) word downs turn pegs
 
 -- ---- the range rule, at its bounds and one past them
@@ -49,16 +46,6 @@ pub record GameRange : Type 0 where
       ∷ game (4 ∷ 1 ∷ 2 ∷ []) [] [] 0 []
       ∷ [])
       ≡ true ∷ false ∷ false ∷ false ∷ false ∷ []
-
-pub game_range_at_its_bounds : GameRange
-unfolding size all_from unlocked moving all_below in_range word_in_range moving_in_range all_odd all_even_and_equal
-game_range_at_its_bounds = record {
-  turns_on_three = refl;
-  pegs_on_three = refl;
-  turns_on_the_ring = refl;
-  pegs_on_the_ring = refl;
-  words_in_range = refl;
-}
 
 -- ---- three pegs
 abbrev aside_left : Towers
@@ -93,18 +80,6 @@ pub record OnThreePegs : Type 0 where
   pub ends_on_three : map step_of (aside_left ∷ aside_right ∷ [])
       ≡ record { state = aside_left; answer = given ended } ∷ record { state = aside_right; answer = given ended } ∷ []
 
-pub made-up_games_on_three_pegs : OnThreePegs
-unfolding size all_from unlocked moving all_below in_range word_in_range moving_in_range all_odd all_even_and_equal peg_of smallest chosen move_of digit_moved step_of
-made-up_games_on_three_pegs = record {
-  pegs_by_notches = refl;
-  peg_of_disk_2 = refl;
-  chosen_on_three = refl;
-  locked_is_no_disk = refl;
-  disk_2_on_three = refl;
-  disk_1_on_three = refl;
-  ends_on_three = refl;
-}
-
 -- ---- the ring
 abbrev stacked : Towers
 stacked = on_ring [] [] 3 (2 ∷ 2 ∷ [])
@@ -126,27 +101,3 @@ pub record OnTheRing : Type 0 where
   pub chosen_on_the_ring : map (λ pegs. chosen (game (4 ∷ 4 ∷ 4 ∷ []) [] [] 3 pegs))
       ((1 ∷ 2 ∷ 3 ∷ []) ∷ (1 ∷ 3 ∷ 3 ∷ []) ∷ (1 ∷ 1 ∷ 3 ∷ []) ∷ (1 ∷ 0 ∷ 1 ∷ []) ∷ (1 ∷ 1 ∷ 0 ∷ []) ∷ (1 ∷ 1 ∷ 1 ∷ []) ∷ [])
       ≡ some 1 ∷ some 1 ∷ some 2 ∷ some 1 ∷ some 2 ∷ none ∷ []
-
-pub made-up_games_on_the_ring : OnTheRing
-unfolding size all_from unlocked moving all_below in_range word_in_range moving_in_range all_odd all_even_and_equal peg_of smallest chosen move_of digit_moved step_of
-made-up_games_on_the_ring = record {
-  sweeps_on_the_ring = refl;
-  disk_2_on_the_ring = refl;
-  ends_on_the_ring = refl;
-  chosen_on_the_ring = refl;
-}
-
--- ---- refusals
--- a state out of range comes back as it came, with 7
-pub faulty_games_get_7 : map step_of (on_three [] [] 2 [] ∷ on_ring [] [] 0 (5 ∷ []) ∷ [])
-    ≡ refused_with 7 (on_three [] [] 2 []) ∷ refused_with 7 (on_ring [] [] 0 (5 ∷ [])) ∷ []
-unfolding size all_from unlocked moving all_below in_range word_in_range moving_in_range all_odd all_even_and_equal peg_of smallest chosen move_of digit_moved step_of
-faulty_games_get_7 = refl
-
--- wrong counts get 6 after all else: 49 digits, a radix 0 and N over 2^62 are told first; N may be 2^62, and counts of locked
--- digits are not looked at
-pub disk_openings_refused_in_order : map open_check
-    ((2 ∷ replicate 48 4) ∷ (0 ∷ 2 ∷ 4 ∷ []) ∷ (3 ∷ replicate 31 4) ∷ (2 ∷ replicate 30 4) ∷ (3 ∷ 4 ∷ []) ∷ replicate 31 4 ∷ (1 ∷ 2 ∷ 2 ∷ []) ∷ (1 ∷ []) ∷ [])
-    ≡ refused 2 ∷ refused 3 ∷ refused 4 ∷ refused 6 ∷ refused 6 ∷ given tt ∷ given tt ∷ given tt ∷ []
-unfolding size all_from unlocked all_below all_odd all_even_and_equal
-disk_openings_refused_in_order = refl

@@ -7,17 +7,6 @@ pub mod Choices
 pub mod Calls
 -- what is promised of whole runs, and the theorems
 pub mod Game
-pub mod DisksWalk
 pub mod Examples
-pub mod Openings
-pub mod Kept
 -- the run: why smaller disks are aside, for three pegs and for a ring, the states of each rank, the disk chosen, one call
-pub mod Stacks
-pub mod Pairs
-pub mod Rings
-pub mod Canonical
-pub mod Choosing
-pub mod Moving
 -- laws
-pub mod Smallest
-pub mod InRange

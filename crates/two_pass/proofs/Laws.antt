@@ -7,7 +7,7 @@ use Rattle.gray_theory.specs.Answers.{given, refused}
 use Rattle.gray_theory.specs.Radices.{digits}
 use Rattle.gray_theory.specs.Words.{is_word}
 use Rattle.gray_theory.specs.Calls.{size_call, rank_call}
-use Rattle.gray_theory.specs.Ranking.{word_refused}
+use Rattle.gray_theory.proofs.Ranking.{word_refused}
 use Rattle.gray_theory.specs.Bools.{impossible}
 use Rattle.two_pass.specs.Stages.{checked_as, check_number}
 use Rattle.two_pass.specs.declared.Checked.{Checked}

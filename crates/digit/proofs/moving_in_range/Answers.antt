@@ -9,7 +9,7 @@ use lib.Dec.{leb, eqb}
 use lib.ListN.{length, get_or}
 use lib.Seq.{length-take-le}
 use Rattle.gray_theory.specs.Directions.{all_below}
-use Rattle.gray_theory.specs.Unlocked.{all_in_range_lem}
+use Rattle.gray_theory.proofs.Unlocked.{all_in_range_lem}
 use Rattle.digit.specs.Moving.{moving_as}
 use Rattle.digit.proofs.moving_in_range.Goals as goal
 

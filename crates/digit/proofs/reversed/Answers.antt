@@ -3,7 +3,7 @@ use Prim.Native.Nat.{◌<◌}
 use native.Mathlib.Omega.{arith}
 use lib.ListN.{length, length-reverse}
 use Rattle.gray_theory.specs.Radices.{digits}
-use Rattle.gray_theory.specs.Filled.{fill_more}
+use Rattle.gray_theory.proofs.Filled.{fill_more}
 use Rattle.digit.proofs.Laws.{goes_on, ends, fill_ended, digit_at}
 use Rattle.digit.proofs.reversed.Goals as goal
 use Rattle.digit.proofs.reversed.Goals.{In-loop-i}

@@ -3,7 +3,7 @@ use Prim.Native.Nat.{◌+◌, ◌*◌, ◌^◌, ◌<◌}
 use mathlib.Core.Path.{refl, sym, ◌∙◌}
 use native.Mathlib.Omega.{arith}
 use Rattle.gray_theory.specs.Words.{reflect}
-use Rattle.gray_theory.specs.Ranking.{rank_small, not_below}
+use Rattle.gray_theory.proofs.Ranking.{rank_small, not_below}
 use Rattle.gray.proofs.Laws.{RankedTo, ranked_none, ranked_first, pair_more, ranked_pair, pair_wrong}
 use Rattle.gray.proofs.Laws.{no_place, wrong_over}
 use Rattle.gray.proofs.place_of.Goals as goal

@@ -6,8 +6,8 @@ use native.Mathlib.Nat.{mod-lt}
 use native.Mathlib.Omega.{arith}
 use lib.ListN.{length-set}
 use Rattle.gray_theory.specs.Words.{reflect}
-use Rattle.gray_theory.specs.Ranks.{reflect_below}
-use Rattle.gray_theory.specs.Digits.{radix_from}
+use Rattle.gray_theory.proofs.Ranks.{reflect_below}
+use Rattle.gray_theory.proofs.Digits.{radix_from}
 use Rattle.gray.proofs.Laws.{put_more, put_all}
 use Rattle.gray.proofs.put_word.Goals as goal
 use Rattle.gray.proofs.put_word.Goals.{After-wide-m}

@@ -3,10 +3,10 @@
 use mathlib.Core.Path.{◌≡◌, sym, ap, ◌∙◌}
 use Rattle.gray_theory.specs.Answers.{given}
 use Rattle.gray_theory.specs.Calls.{size_call, rank_call}
-use Rattle.gray_theory.specs.Ranking.{too_long_or_short, word_refused}
-use Rattle.gray_theory.specs.Refusals.{accepted}
+use Rattle.gray_theory.proofs.Ranking.{too_long_or_short, word_refused}
+use Rattle.gray_theory.proofs.Refusals.{accepted}
 use Rattle.gray.specs.Enums.{counted_as}
-use Rattle.gray.specs.Passing.{passed_on}
+use Rattle.gray.proofs.Passing.{passed_on}
 use Rattle.gray.proofs.Laws.{no_word_refused, rank_given}
 use Rattle.gray.proofs.rank.Goals as goal
 use Rattle.gray.proofs.rank.Goals.{In-Size}

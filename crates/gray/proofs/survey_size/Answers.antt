@@ -2,9 +2,9 @@
 use mathlib.Core.Path.{◌≡◌, sym, ap, ◌∙◌}
 use Rattle.gray_theory.specs.Answers.{given}
 use Rattle.gray_theory.specs.Calls.{size_call, survey_call}
-use Rattle.gray_theory.specs.Refusals.{capacity_refused, capacity_accepted}
+use Rattle.gray_theory.proofs.Refusals.{capacity_refused, capacity_accepted}
 use Rattle.gray.specs.Enums.{counted_as}
-use Rattle.gray.specs.Passing.{passed_on}
+use Rattle.gray.proofs.Passing.{passed_on}
 use Rattle.gray.proofs.survey_size.Goals as goal
 use Rattle.gray.proofs.survey_size.Goals.{In-Size}
 

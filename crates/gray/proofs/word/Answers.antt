@@ -6,8 +6,8 @@ use Rattle.gray_theory.specs.Radices.{digits, bytes}
 use Rattle.gray_theory.specs.Indexed.{word_at}
 use Rattle.gray_theory.specs.Calls.{size_call, word_call}
 use Rattle.gray.specs.Enums.{counted_as}
-use Rattle.gray_theory.specs.Refusals.{accepted, wrote_nothing, wrote_bytes}
-use Rattle.gray.specs.Passing.{passed_on}
+use Rattle.gray_theory.proofs.Refusals.{accepted, wrote_nothing, wrote_bytes}
+use Rattle.gray.proofs.Passing.{passed_on}
 use Rattle.gray.proofs.Laws.{rank_refused, room_refused, word_given, word_long_as}
 use Rattle.gray.proofs.word.Goals as goal
 use Rattle.gray.proofs.word.Goals.{In-Size}

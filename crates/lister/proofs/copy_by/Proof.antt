@@ -5,7 +5,8 @@ use mathlib.Core.List.{List}
 use native.Mathlib.Omega.{arith}
 use borrow.Author.Rules.{rules}
 use lib.ListN.{length, take, drop}
-use Rattle.gray_theory.specs.Places.{placed, placed-none, placed-over}
+use Rattle.gray_theory.specs.Places.{placed}
+use Rattle.gray_theory.proofs.Places.{placed-none, placed-over}
 use Rattle.lister.proofs.copy_by.Statement.{statement}
 use Rattle.lister.proofs.copy_by.Tie as tie
 

@@ -8,8 +8,8 @@ use borrow.Author.Tests.{leb-true, leb-false, not-true, not-false}
 use Rattle.gray_theory.specs.Answers.{given}
 use Rattle.gray_theory.specs.Calls.{size_call}
 use Rattle.gray.specs.Enums.{counted_as}
-use Rattle.gray_theory.specs.Refusals.{accepted, wrote_nothing}
-use Rattle.gray.specs.Passing.{passed_on}
+use Rattle.gray_theory.proofs.Refusals.{accepted, wrote_nothing}
+use Rattle.gray.proofs.Passing.{passed_on}
 use Rattle.lister_theory.specs.Calls.{list_call}
 use Rattle.lister.proofs.Runs.{run_refused_lem, room_refused, table_asked, list_reached, run-written, none_written}
 use borrow.Author.Rules.{rules}

@@ -4,7 +4,8 @@ use native.Mathlib.Nat.{add-zero}
 use native.Mathlib.Omega.{arith}
 use borrow.Author.Rules.{rules}
 use lib.ListN.{take}
-use Rattle.gray_theory.specs.Places.{placed, placed-none}
+use Rattle.gray_theory.specs.Places.{placed}
+use Rattle.gray_theory.proofs.Places.{placed-none}
 use Rattle.lister.proofs.put.Statement.{statement}
 use Rattle.lister.proofs.put.Tie as tie
 

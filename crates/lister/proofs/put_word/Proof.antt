@@ -6,7 +6,8 @@ use native.Mathlib.Omega.{arith}
 use borrow.Author.Rules.{rules}
 use lib.ListN.{length, take, set, length-set, length-append}
 use lib.Seq.{append_snoc, length-take-le}
-use Rattle.gray_theory.specs.Places.{placed, placed-set}
+use Rattle.gray_theory.specs.Places.{placed}
+use Rattle.gray_theory.proofs.Places.{placed-set}
 use Rattle.lister.proofs.put_word.Statement.{statement}
 use Rattle.lister.proofs.put_word.Tie as tie
 

@@ -6,7 +6,8 @@ use native.Mathlib.Numerals.{add-one}
 use native.Mathlib.Omega.{arith}
 use lib.ListN.{length, get_or, take, set, length-set}
 use lib.Seq.{take-suc, length-take-le}
-use Rattle.gray_theory.specs.Places.{placed, placed-none, placed-set}
+use Rattle.gray_theory.specs.Places.{placed}
+use Rattle.gray_theory.proofs.Places.{placed-none, placed-set}
 use Rattle.lister.proofs.store.Statement.{statement}
 use Rattle.lister.proofs.store.Tie as tie
 

@@ -3,7 +3,7 @@ use Prim.Native.Nat.{◌≤◌}
 use mathlib.Core.Path.{sym, ap, ◌∙◌}
 use lib.ListN.{length}
 use Rattle.gray.specs.Enums.{counted_as}
-use Rattle.gray_theory.specs.Refusals.{accepted}
+use Rattle.gray_theory.proofs.Refusals.{accepted}
 use borrow.Author.Rules.{rules}
 use Rattle.marathon.proofs.walk_all.Statement.{statement}
 use Rattle.marathon.proofs.walk_all.Tie as tie

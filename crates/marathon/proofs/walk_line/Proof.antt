@@ -3,7 +3,7 @@ use mathlib.Core.Path.{◌≡◌, sym, ◌∙◌}
 use native.Mathlib.Omega.{arith}
 use lib.ListN.{length}
 use lib.Seq.{length-take-le}
-use Rattle.reader.specs.Reading.{few_counts}
+use Rattle.reader.proofs.Reading.{few_counts}
 use borrow.Author.Rules.{rules}
 use Rattle.marathon.proofs.walk_line.Statement.{statement}
 use Rattle.marathon.proofs.walk_line.Tie as tie

@@ -5,7 +5,7 @@ use Rattle.gray_theory.specs.Locks.{MovingDigits}
 use Rattle.ahead_theory.specs.States.{Walk}
 use Rattle.ahead_theory.specs.Calls.{open_of}
 use Rattle.pages_theory.specs.Pages.{half_of, printing_of}
-use Rattle.pages_theory.specs.WalkLines.{counted_among_48}
+use Rattle.pages_theory.proofs.WalkLines.{counted_among_48}
 use Rattle.text_theory.specs.declared.Line.{Line}
 use borrow.Author.Rules.{rules}
 use Rattle.pages.proofs.of_survey.Statement.{statement}

@@ -4,7 +4,7 @@ use native.Mathlib.Omega.{arith}
 use mathlib.Core.Path.{◌≡◌, refl}
 use mathlib.Core.List.{◌++◌}
 use lib.ListN.{length, take, replicate}
-use Rattle.gray_theory.specs.Filled.{fill_more, fill_all}
+use Rattle.gray_theory.proofs.Filled.{fill_more, fill_all}
 use Rattle.stretch.proofs.long_queue.Statement.{statement}
 use Rattle.stretch.proofs.long_queue.Tie as tie
 

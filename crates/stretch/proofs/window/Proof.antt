@@ -5,7 +5,7 @@ use mathlib.Core.Path.{◌≡◌, refl, sym, ap, ◌∙◌}
 use mathlib.Core.List.{◌++◌, append-nil}
 use lib.ListN.{get_or, take, drop, replicate, length-drop}
 use lib.Seq.{get_or-drop}
-use Rattle.gray_theory.specs.Filled.{fill_more}
+use Rattle.gray_theory.proofs.Filled.{fill_more}
 use Rattle.stretch.proofs.window.Statement.{statement}
 use Rattle.stretch.proofs.window.Tie as tie
 

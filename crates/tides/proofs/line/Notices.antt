@@ -7,7 +7,7 @@ use borrow.Author.Tests.{leb-true, le-leb}
 use lib.Dec.{leb}
 use Rattle.tides_theory.specs.Calendar.{exists, days_in_month}
 use Rattle.tides_theory.specs.Lines.{Notice, in_range}
-use Rattle.tides_theory.specs.Days.{Exists, exists-says}
+use Rattle.tides_theory.proofs.Days.{Exists, exists-says}
 use Rattle.tides.specs.declared.line.Fields.{Fields}
 use Rattle.tides.specs.Stages.{date_ranged, time_ranged, date_in}
 use Rattle.tides.proofs.line.Answered.{all_five}

@@ -6,7 +6,7 @@ use mathlib.Core.Bool.{Bool, true, false, cond, and-eq-true_iff}
 use borrow.Author.Tests.{leb-true, le-leb}
 use lib.Dec.{eqb, leb}
 use Rattle.tides_theory.specs.Calendar.{days_in_month, days_of_years, days_of_months, day_number}
-use Rattle.tides_theory.specs.QuickDays.{quick_years, quick_length, quick_months}
+use Rattle.tides_theory.proofs.QuickDays.{quick_years, quick_length, quick_months}
 use Rattle.tides.specs.declared.line.Fields.{Fields}
 use Rattle.tides.specs.Stages.{among, leap_day, length_of, lacking, date_ranged, time_ranged, start_in, time_in, minute_in}
 use Rattle.tides.proofs.line.Answered.{all_three}

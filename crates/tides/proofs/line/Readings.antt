@@ -13,8 +13,8 @@ use Rattle.text_theory.specs.Ascii.{ascii}
 use Rattle.text_theory.specs.Decimals.{glyph, is_digit}
 use Rattle.tides_theory.specs.Lines.{high_letter, low_letter, Notice, notice_in, in_range, is_line, digits_of, line_of}
 use Rattle.tides_theory.specs.Windows.{tide_of}
-use Rattle.tides_theory.specs.FieldDigits.{glyph_is_digit}
-use Rattle.tides_theory.specs.Exact.{notices_have_lines, lines_are_their_notices, lines_say_what_is_in_range}
+use Rattle.tides_theory.proofs.FieldDigits.{glyph_is_digit}
+use Rattle.tides_theory.proofs.Exact.{notices_have_lines, lines_are_their_notices, lines_say_what_is_in_range}
 use Rattle.tides.specs.declared.line.Line.{Line}
 use Rattle.tides.specs.declared.line.Line.TheVariants.{Tide, Unread}
 use Rattle.tides.specs.declared.line.Fields.{Fields}

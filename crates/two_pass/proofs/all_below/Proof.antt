@@ -5,7 +5,7 @@ use native.Mathlib.Omega.{arith}
 use lib.ListN.{length, take}
 use Rattle.gray_theory.specs.Radices.{digits}
 use Rattle.gray_theory.specs.Words.{is_word}
-use Rattle.gray_theory.specs.Ranking.{below_more, below_all}
+use Rattle.gray_theory.proofs.Ranking.{below_more, below_all}
 use Rattle.two_pass.proofs.all_below.Statement.{statement}
 use Rattle.two_pass.proofs.all_below.Tie as tie
 

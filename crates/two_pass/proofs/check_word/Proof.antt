@@ -2,7 +2,7 @@
 use mathlib.Core.Path.{sym, ap, ◌∙◌}
 use borrow.Author.Rules.{rules}
 use Rattle.two_pass.specs.Stages.{checked_as}
-use Rattle.gray_theory.specs.Ranking.{too_long_or_short}
+use Rattle.gray_theory.proofs.Ranking.{too_long_or_short}
 use Rattle.two_pass.proofs.check_word.Statement.{statement}
 use Rattle.two_pass.proofs.check_word.Tie as tie
 

@@ -4,9 +4,9 @@ use mathlib.Core.Path.{◌≡◌, sym, ap, ◌∙◌}
 use Rattle.gray_theory.specs.Answers.{given}
 use Rattle.gray_theory.specs.Calls.{size_call, rank_call}
 use Rattle.gray.specs.Enums.{counted_as}
-use Rattle.gray_theory.specs.Ranking.{word_ranked}
-use Rattle.gray_theory.specs.Refusals.{accepted}
-use Rattle.gray.specs.Passing.{passed_on}
+use Rattle.gray_theory.proofs.Ranking.{word_ranked}
+use Rattle.gray_theory.proofs.Refusals.{accepted}
+use Rattle.gray.proofs.Passing.{passed_on}
 use Rattle.two_pass.specs.Stages.{Rankable}
 use Rattle.two_pass.proofs.Laws.{fine_says, check_refused}
 use borrow.Author.Rules.{rules}

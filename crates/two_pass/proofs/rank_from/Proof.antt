@@ -6,8 +6,8 @@ use borrow.Author.Rules.{rules}
 use lib.ListN.{length, take}
 use Rattle.gray_theory.specs.Radices.{digits}
 use Rattle.gray_theory.specs.Words.{rank}
-use Rattle.gray_theory.specs.Digits.{is_word_taken, word_long, digit_below}
-use Rattle.gray_theory.specs.Ranking.{rank_more, rank_small, rank_all}
+use Rattle.gray_theory.proofs.Digits.{is_word_taken, word_long, digit_below}
+use Rattle.gray_theory.proofs.Ranking.{rank_more, rank_small, rank_all}
 use Rattle.two_pass.proofs.rank_from.Statement.{statement}
 use Rattle.two_pass.proofs.rank_from.Tie as tie
 

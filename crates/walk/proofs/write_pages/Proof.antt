@@ -8,7 +8,7 @@ use lib.ListN.{length}
 use lib.Seq.{length-take-le}
 use Rattle.pages.specs.Structs.{printing_as}
 use Rattle.pages_theory.specs.Pages.{Filled}
-use Rattle.pages_theory.specs.PageLaws.{filling_fits}
+use Rattle.pages_theory.proofs.PageLaws.{filling_fits}
 use Rattle.walk.proofs.write_pages.Statement.{statement}
 use Rattle.walk.proofs.write_pages.Tie as tie
 

@@ -2,8 +2,8 @@
 use mathlib.Core.Path.{sym, ◌∙◌}
 use borrow.Author.Tests.{not-true, not-false}
 use lib.Dec.{eqb}
-use Rattle.gray_theory.specs.Bools.{neither}
-use Rattle.gray_theory.specs.SingleCalls.{run_out_of_range_is_refused, run_into_shorter_memory_is_refused}
+use Rattle.gray_theory.proofs.Bools.{neither}
+use Rattle.gray_theory.proofs.SingleCalls.{run_out_of_range_is_refused, run_into_shorter_memory_is_refused}
 use Rattle.ahead.proofs.Calls.{run_unmoved, calls_ready, run_halted}
 use borrow.Author.Rules.{rules}
 use Rattle.ahead.proofs.Walk.run.Statement.{statement}

@@ -8,7 +8,7 @@ use borrow.Author.Tests.{not-true, not-false}
 use Rattle.ahead_theory.specs.States.{Producer, Walk, moving_radices, in_range, Arrays}
 use Rattle.ahead_theory.specs.Work.{work}
 use Rattle.ahead_theory.specs.Calls.{once, twice}
-use Rattle.ahead_theory.specs.InRange.{Ranged, range_says, Reached, reached_none}
+use Rattle.ahead_theory.proofs.InRange.{Ranged, range_says, Reached, reached_none}
 use Rattle.ahead.specs.Structs.{producer_with, walk_as}
 use Rattle.ahead.specs.Stages.{moving_of}
 use Rattle.ahead.proofs.Ranges.{ranged_known, moving_count, moving_most, moving-numbers, moving_radices_lem}

@@ -6,7 +6,7 @@ use native.Mathlib.Omega.{arith}
 use lib.Dec.{leb}
 use lib.ListN.{get_or}
 use Rattle.gray_theory.specs.Directions.{all_below}
-use Rattle.gray_theory.specs.DigitRanges.{tested_none, tested_more, tested_all}
+use Rattle.gray_theory.proofs.DigitRanges.{tested_none, tested_more, tested_all}
 use Rattle.ahead.proofs.range.entries_in_range.Statement.{statement}
 use Rattle.ahead.proofs.range.entries_in_range.Tie as tie
 

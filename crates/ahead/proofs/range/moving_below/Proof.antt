@@ -6,8 +6,9 @@ use borrow.Author.Rules.{rules}
 use lib.Dec.{ltb}
 use lib.ListN.{length, get_or}
 use Rattle.gray_theory.specs.Directions.{all_below}
-use Rattle.gray_theory.specs.DigitRanges.{tested_none, tested_more, tested_all}
-use Rattle.gray_theory.specs.Unlocked.{looked_up, looked_up_at}
+use Rattle.gray_theory.proofs.DigitRanges.{tested_none, tested_more, tested_all}
+use Rattle.gray_theory.specs.Unlocked.{looked_up}
+use Rattle.gray_theory.proofs.Unlocked.{looked_up_at}
 use Rattle.ahead.proofs.range.moving_below.Statement.{statement}
 use Rattle.ahead.proofs.range.moving_below.Tie as tie
 

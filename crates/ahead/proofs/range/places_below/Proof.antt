@@ -7,8 +7,8 @@ use lib.ListN.{length, get_or}
 use native.Mathlib.Omega.{arith}
 use borrow.Author.Rules.{rules}
 use Rattle.gray_theory.specs.Directions.{all_below}
-use Rattle.gray_theory.specs.DigitRanges.{tested_none}
-use Rattle.gray_theory.specs.Gathers.{gathered_more, gathered}
+use Rattle.gray_theory.proofs.DigitRanges.{tested_none}
+use Rattle.gray_theory.proofs.Gathers.{gathered_more, gathered}
 use Rattle.ahead.proofs.range.places_below.Statement.{statement}
 use Rattle.ahead.proofs.range.places_below.Tie as tie
 

@@ -7,7 +7,7 @@ use native.Mathlib.Nat.{add_comm}
 use native.Mathlib.Omega.{arith}
 use lib.ListN.{length, get_or, take, drop, replicate, length-drop}
 use lib.Seq.{get_or-drop}
-use Rattle.gray_theory.specs.Filled.{fill_more, fill_all}
+use Rattle.gray_theory.proofs.Filled.{fill_more, fill_all}
 use Rattle.ahead.proofs.work.shifted.Statement.{statement}
 use Rattle.ahead.proofs.work.shifted.Tie as tie
 

@@ -5,7 +5,7 @@ use native.Mathlib.Omega.{arith}
 use lib.ListN.{length}
 use lib.Seq.{length-take-le}
 use Rattle.reader.specs.Readers.{input_in}
-use Rattle.reader.specs.Reading.{few_counts}
+use Rattle.reader.proofs.Reading.{few_counts}
 use Rattle.pages_theory.specs.Pages.{begun}
 use borrow.Author.Rules.{rules}
 use Rattle.pages.proofs.Printing.of_reader.Statement.{statement}

@@ -4,7 +4,7 @@ use mathlib.Core.Path.{sym, ◌∙◌}
 use mathlib.Core.List.{map}
 use borrow.Author.Rules.{rules}
 use lib.ListN.{length, length-map}
-use Rattle.gray_theory.specs.Refusals.{wrote_nothing, wrote_bytes}
+use Rattle.gray_theory.proofs.Refusals.{wrote_nothing, wrote_bytes}
 use Rattle.tides_theory.specs.Windows.{moves_that_fit}
 use Rattle.tides_theory.specs.Calls.{windows_in, counts_call}
 use Rattle.tides.proofs.Answered.{refused_by, Passes, passes, no_room, all_counts_lem}

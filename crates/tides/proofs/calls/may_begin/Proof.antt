@@ -4,7 +4,7 @@ use mathlib.Core.Bool.{Bool, true, false}
 use borrow.Author.Rules.{rules}
 use Rattle.gray_theory.specs.Answers.{given}
 use Rattle.tides_theory.specs.Calls.{may_begin_call}
-use Rattle.tides_theory.specs.Accepting.{begun_as}
+use Rattle.tides_theory.proofs.Accepting.{begun_as}
 use Rattle.tides.proofs.Answered.{refused_by, passes}
 use Rattle.tides.proofs.calls.may_begin.Statement.{statement}
 use Rattle.tides.proofs.calls.may_begin.Tie as tie

@@ -8,8 +8,8 @@ use Rattle.gray_theory.specs.Answers.{given}
 use Rattle.gray_theory.specs.Calls.{size_call}
 use Rattle.digit.specs.Moving.{moving_as}
 use Rattle.gray.specs.Enums.{counted_as}
-use Rattle.gray_theory.specs.Refusals.{accepted}
-use Rattle.gray.specs.Passing.{passed_on}
+use Rattle.gray_theory.proofs.Refusals.{accepted}
+use Rattle.gray.proofs.Passing.{passed_on}
 use Rattle.towers_theory.specs.States.{Arrays}
 use Rattle.towers.specs.Structs.{towers_as}
 use Rattle.towers.proofs.Ranges.{CountsTested, opening_refused, array_room, fresh_fits, counts_tested, counts_refused, opening_given}

@@ -3,7 +3,7 @@ use mathlib.Core.Path.{◌≡◌, sym, ◌∙◌}
 use mathlib.Core.Bool.{true}
 use borrow.Author.Rules.{rules}
 use borrow.Author.Tests.{not-true, not-false}
-use Rattle.gray_theory.specs.SingleCalls.{run_out_of_range_is_refused, run_into_shorter_memory_is_refused}
+use Rattle.gray_theory.proofs.SingleCalls.{run_out_of_range_is_refused, run_into_shorter_memory_is_refused}
 use Rattle.towers_theory.specs.States.{Towers, in_range, Arrays}
 use Rattle.towers.specs.Structs.{towers_as}
 use Rattle.towers.proofs.Steps.{survey-right}

@@ -1,0 +1,25 @@
+-- Theorems and laws of the definitions in specs/.
+pub mod Capacity
+pub mod Clauses
+pub mod Entries
+pub mod FillLaws
+pub mod InRange
+pub mod LocalCalls
+pub mod LocalMoves
+pub mod LocalRuns
+pub mod LocalWork
+pub mod Openings
+pub mod Phases
+pub mod PickedUp
+pub mod RunRanges
+pub mod Standing
+pub mod Tallies
+pub mod WorkAhead
+pub mod Canonical
+pub mod Counters
+pub mod Examples
+pub mod Filling
+pub mod Kept
+pub mod Positions
+pub mod Rounds
+pub mod Stretches

@@ -1,0 +1,3 @@
+-- Theorems and laws of the definitions in specs/.
+pub mod Resumed
+pub mod Agree
