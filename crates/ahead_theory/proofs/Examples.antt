@@ -8,12 +8,12 @@ use Rattle.gray_theory.specs.Arrays.{filled}
 use Rattle.gray_theory.specs.Locks.{unlocked, moving, moving_in_range}
 use Rattle.gray_theory.specs.Directions.{all_below}
 use Rattle.gray_theory.specs.DirectedWords.{word_in_range, digit_moved}
-use Rattle.gray_theory.specs.Engines.{ended, after}
+use Rattle.gray_theory.specs.Engines.{after}
 use Rattle.ahead_theory.specs.States.{producer_in_range, in_range}
 use Rattle.ahead_theory.specs.Work.{kind, done}
 use Rattle.ahead_theory.specs.Calls.{fresh, closed_walk, course, dequeued, end_of, move_of, step_of}
 use Rattle.ahead_theory.specs.Pickups.{fillable, fill, picked_up, resume_of}
-use Rattle.ahead_theory.specs.Examples.{word, walk, WalkRange, WorkSteps, MadeUpCalls}
+use Rattle.ahead_theory.specs.Examples.{WalkRange, WorkSteps, MadeUpCalls}
 
 -- ---- a walk that is picked up
 -- the survey 2, 1, 3, whose sluice 2 is locked, at 0 0 2, of rank 2 in 6, with two places: sluice 1 is at its top and goes

@@ -1,6 +1,6 @@
 -- The states of a run: each follows from how many entries are removed, t, how many are queued, k, and how many carries are made
 -- towards the next, p. What a work step, a removal and a call do with them.
-use Prim.Native.Nat.{ℕ, zero, suc, ◌+◌, ◌-◌}
+use Prim.Native.Nat.{ℕ, zero, suc, ◌+◌}
 use Rattle.std.specs.Prelude.{Bool, List, [], ◌∷◌, ◌++◌}
 use Rattle.gray_theory.specs.Radices.{mixed_digits}
 use Rattle.gray_theory.specs.Changes.{ruler}

@@ -1,7 +1,6 @@
 -- The counter of the producer: the mixed-radix digits of the entries finished, with the places cleared by carries.
-use Rattle.std.specs.Prelude.{ℕ, ◌+◌, ◌-◌, drop, replicate}
-use mathlib.Core.List.{List, [], ◌++◌}
-use Rattle.ahead_theory.specs.States.{places}
+use Rattle.std.specs.Prelude.{ℕ, drop, replicate}
+use mathlib.Core.List.{List, ◌++◌}
 
 -- the first p places are 0
 abbrev pub cleared : ℕ → List ℕ → List ℕ

@@ -3,7 +3,6 @@
 use Rattle.std.specs.Prelude.{ℕ, ◌≡◌, Bool, true, false, List, [], ◌∷◌, ◌++◌, map}
 use Rattle.gray_theory.specs.Answers.{given}
 use Rattle.gray_theory.specs.Arrays.{filled}
-use Rattle.gray_theory.specs.Locks.{moving}
 use Rattle.gray_theory.specs.DirectedWords.{DirectedWord}
 use Rattle.gray_theory.specs.Engines.{moved, ended, refused_with}
 use Rattle.ahead_theory.specs.States.{Producer, Walk, in_range}

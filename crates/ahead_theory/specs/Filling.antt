@@ -1,11 +1,9 @@
 -- Filling ahead from a rank: work steps until the queue is full or holds the end entry reach it within their bound, and what the
 -- buffer then holds follows from the rank.
 use Prim.Native.Nat.{ℕ, ◌+◌, ◌-◌, ◌≤◌}
-use Rattle.std.specs.Prelude.{◌≡◌, List, [], ltb}
+use Rattle.std.specs.Prelude.{◌≡◌, List, ltb}
 use Rattle.std.proofs.Math.Bool.{cond}
 use Rattle.gray_theory.specs.Radices.{size}
-use Rattle.ahead_theory.specs.States.{places}
-use Rattle.ahead_theory.specs.Canonical.{entries}
 
 -- ---- how far filling goes
 -- q entries from rank t on: as many as there are places, or up to the end entry

@@ -1,9 +1,9 @@
 -- One call on a state of the run: its two work steps, and the removal.
-use Prim.Native.Nat.{ℕ, ◌+◌, ◌-◌}
+use Prim.Native.Nat.{ℕ, ◌+◌}
 use Rattle.std.specs.Prelude.{◌≡◌, false, List, [], ◌∷◌}
 use Rattle.gray_theory.specs.Locks.{unlocked}
 use Rattle.ahead_theory.specs.States.{Walk}
-use Rattle.ahead_theory.specs.Work.{Work, work}
+use Rattle.ahead_theory.specs.Work.{Work}
 use Rattle.ahead_theory.specs.Calls.{once, twice, removing}
 use Rattle.ahead_theory.specs.Events.{events_by}
 use Rattle.ahead_theory.specs.Positions.{Worked, gained}

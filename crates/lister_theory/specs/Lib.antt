@@ -3,5 +3,6 @@
 -- definitions
 pub mod Listers
 pub mod Calls
+
 -- theorems
 -- the list backward, and with one digit more at its slow end

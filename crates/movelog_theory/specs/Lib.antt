@@ -6,4 +6,5 @@ pub mod Shapes
 pub mod Calls
 -- theorems
 pub mod ShapedExactly
+
 -- laws

@@ -1,6 +1,6 @@
 -- All that the program `walk` prints for an input (document 01), and document 01's example in full. Its moves are the list's: that the
 -- buffered engine makes just these is `fresh_walks_work_ahead` of `ahead_theory`.
-use Rattle.std.specs.Prelude.{◌-◌, ◌≡◌, refl, []}
+use Rattle.std.specs.Prelude.{◌≡◌, refl}
 use Rattle.gray_theory.specs.Words.{list, upward, downward, notches, through}
 use Rattle.gray_theory.specs.Changes.{difference}
 use Rattle.gray_theory.specs.Radices.{size, all_from}

@@ -6,5 +6,6 @@ pub mod Decimals
 pub mod Surveys
 pub mod Lines
 pub mod Output
+
 -- theorems
 -- laws

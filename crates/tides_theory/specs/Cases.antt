@@ -5,7 +5,7 @@ use Rattle.gray_theory.specs.Answers.{Answer, given, refused}
 use Rattle.text_theory.specs.Ascii.{ascii}
 use Rattle.tides_theory.specs.Calendar.{days_in_month, Date, exists, day_after}
 use Rattle.tides_theory.specs.Lines.{notice_in, is_line}
-use Rattle.tides_theory.specs.Windows.{tide_of, windows}
+use Rattle.tides_theory.specs.Windows.{tide_of}
 use Rattle.tides_theory.specs.Calls.{counts_call, may_begin_call}
 
 -- what a row is about: numbers, a date, whether something is so, or what one of the calls answers

@@ -8,4 +8,5 @@ pub mod Fitting
 pub mod Calls
 -- theorems
 pub mod Cases
+
 -- laws

@@ -7,7 +7,7 @@ use Rattle.gray_theory.specs.Arrays.{filled}
 use Rattle.gray_theory.specs.DirectedWords.{directed_on}
 use Rattle.gray_theory.specs.Engines.{moved, ended}
 use Rattle.towers_theory.specs.States.{Towers, in_range}
-use Rattle.towers_theory.specs.Choices.{peg_of, smallest, chosen}
+use Rattle.towers_theory.specs.Choices.{peg_of, chosen}
 use Rattle.towers_theory.specs.Calls.{step_of}
 
 -- ---- made-up states
