@@ -3,7 +3,7 @@ use Prim.Native.Nat.{ℕ, zero, suc, ◌+◌, ◌-◌, ◌*◌, ◌^◌, ◌≤�
 use mathlib.Core.Path.{◌≡◌, refl, sym, ap, ◌∙◌}
 use mathlib.Core.Bool.{Bool, true, false, cond, not}
 use mathlib.Core.List.{List, [], ◌∷◌, ◌++◌, map, append-nil, map-append, map-id}
-use native.Mathlib.Nat.{add-zero, add-mul, mul-one, mul-le-mul_right, sub-add-eq}
+use native.Mathlib.Nat.{add-zero, add-mul, mul-one, sub-add-eq}
 use native.Mathlib.Numerals.{add-one}
 use native.Mathlib.Decide.{dec_lt}
 use native.Mathlib.Omega.{arith}
@@ -269,7 +269,7 @@ module _ (d : Bool) (radices sizes : List ℕ) (i skip left start : ℕ) (word�
             ]
 
     -- the room that the window has
-    pub along_room : at + t * length radices ≤ length out
+    along_room : at + t * length radices ≤ length out
     along_room = omega (arith, a.place, a.same, r.room)
 
     -- the window that is left ends no later
@@ -348,13 +348,6 @@ chosen_lister d ms b = go (even b)
     go : (e : Bool) → cond e (listing d ms) (listing (not d) ms) ≡ listing (cond e d (not d)) ms
     go true = refl
     go false = refl
-
--- where no digit remains a word has room
-pub none_room : {radices sizes word : List ℕ} {i s t at : ℕ} {out : List ℕ} → Reached radices sizes word i s t out at
-    → i ≡ length radices → at + i ≤ length out
-none_room {radices} r none =
-    let one = mul-le-mul_right (length radices) r.some in
-    omega (arith, r.room)
 
 -- ---- the digits that remain where digit i stands at notch b
 module _ (radices sizes word : List ℕ) (i b s t at : ℕ) (out : List ℕ) (more : i < length radices)

@@ -10,7 +10,6 @@ use lib.ListN.{length, get_or, take, drop, set, length-set, take-append-drop}
 use lib.Seq.{drop-length, drop-cons, get_or-set_same, get_or-set_other}
 use Rattle.gray_theory.specs.Radices.{size, all_from}
 use Rattle.gray_theory.proofs.Sizes.{all_from-take, size-append, size_pos}
-use Rattle.lister.specs.Outputs.{Sized}
 
 -- the entries from i on are there, and q is the number of words of the digits from i on
 pub record Tabled (radices sizes : List ℕ) (q i : ℕ) : Type 0 where
@@ -68,6 +67,3 @@ module _ (radices sizes : List ℕ) (q i m : ℕ) (t : Tabled radices sizes q i)
   -- so q * m does not wrap
   pub tabled_short : 0 < i → all_from 1 radices ≡ true → m ≡ get_or radices (i - 1) 0 → q * m ≤ size radices
   tabled_short some whole e = omega (arith, words_more some e, size_dropped radices (i - 1) whole)
-
-pub tabled_all : (radices sizes : List ℕ) (q i : ℕ) → Tabled radices sizes q i → i ≤ 0 → Sized radices sizes
-tabled_all radices sizes q i t none j below = t.entries j (omega arith) below

@@ -1,6 +1,6 @@
 -- A turn of a lister's loop, for `up`, `down` and `square` alike: what is known where it begins, and what its steps want of
 -- that.
-use Prim.Native.Nat.{ℕ, suc, ◌+◌, ◌-◌, ◌*◌, ◌^◌, ◌≤◌, ◌<◌}
+use Prim.Native.Nat.{ℕ, suc, ◌+◌, ◌-◌, ◌*◌, ◌≤◌, ◌<◌}
 use native.Mathlib.Omega.{arith}
 use mathlib.Core.Path.{◌≡◌, refl, sym, ap, subst, ◌∙◌}
 use mathlib.Core.Bool.{Bool, true, false, cond, not, ◌&&◌, and-eq-true_iff}
@@ -13,7 +13,7 @@ use Rattle.gray_theory.specs.Radices.{size}
 use Rattle.gray_theory.specs.Words.{even}
 use Rattle.lister_theory.specs.Listers.{listing}
 use Rattle.lister.specs.Outputs.{window, laid, notch_after, Reached, RowRoom, Listed}
-use Rattle.lister.proofs.Blocks.{Along, along_past, along_wrote, along_ended, along_below, along_row, along_room}
+use Rattle.lister.proofs.Blocks.{Along, along_past, along_wrote, along_ended, along_below, along_row}
 use Rattle.lister.proofs.Blocks.{wrote_row, wrote_square, chosen_lister, fixed_digits}
 
 -- what is known where a turn begins: u of the m notches are passed, and each has q words
@@ -68,9 +68,6 @@ module _ {d : Bool} {radices sizes : List ℕ} {i skip left start : ℕ} {word�
       along_below d radices sizes i skip left start word₀ out₀ turn.reached turn.more word out u s t at turn.along b
       (omega (arith, turn.block)) some
 
-  pub remaining_may : (b : ℕ) → s < q → 0 < t → (i < length radices) × Reached radices sizes (set word i b) (i + 1) s t out at
-  remaining_may b begins some = (turn.more, below_may b begins some)
-
   pub square_may : (b : ℕ) → s < q → 0 < t → i + 3 ≡ length radices
       → (3 ≤ length radices)
       × Reached radices sizes (set word (length radices - 3) b) (length radices - 2) s t out at
@@ -81,12 +78,6 @@ module _ {d : Bool} {radices sizes : List ℕ} {i skip left start : ℕ} {word�
         subst (λ k. Reached radices sizes (set word k b) (length radices - 2) s t out at) seam
             (subst (λ k. Reached radices sizes (set word i b) k s t out at) next (below_may b begins some)),
       )
-
-  pub past_may : length out₀ < 2 ^ 64 → at + t * length radices < 2 ^ 64
-  past_may fits =
-      let room =
-      along_room d radices sizes i skip left start word₀ out₀ turn.reached turn.more word out u s t at turn.along in
-      omega (arith, turn.along.same)
 
   -- the loop is left
   stopped : (u < m → 0 < t → ⊥) → out ≡ laid start (take i word₀) (window skip left (listing d (drop i radices))) out₀

@@ -218,7 +218,7 @@ fn square(
 
 // The upward lister: i digits stand fixed in `word`, and the next one goes through its notches, 0 first. After an even notch
 // the digits that remain are listed upward too, after an odd one downward.
-#[cycle(down_remaining_up)]
+#[cycle(listers)]
 fn up(
     radices: &[u8],
     sizes: &[usize; DIGITS],
@@ -252,7 +252,7 @@ fn up(
 
 // The downward lister: the next digit goes from its last notch to 0. After an even notch the digits that remain are listed
 // downward too, after an odd one upward.
-#[cycle(down_remaining_up)]
+#[cycle(listers)]
 fn down(
     radices: &[u8],
     sizes: &[usize; DIGITS],
@@ -286,7 +286,7 @@ fn down(
 
 // Digit i stands at notch a, and the downward or the upward lister lists the digits that remain; where none remains the word is
 // written as it stands. For the last two digits the listers call `square` themselves: a call in between would be felt there.
-#[cycle(down_remaining_up)]
+#[cycle(listers)]
 fn remaining(
     radices: &[u8],
     sizes: &[usize; DIGITS],

@@ -3,13 +3,11 @@ use Prim.Native.Nat.{ℕ, ◌+◌, ◌-◌, ◌≤◌, ◌<◌}
 use mathlib.Core.Path.{◌≡◌}
 use mathlib.Core.List.{List, [], ◌∷◌, ◌++◌}
 use native.Mathlib.Omega.{arith}
-use borrow.Author.Rules.{rules}
-use lib.ListN.{length, take, set, length-set, length-append}
+use lib.ListN.{length, take, set, length-append}
 use lib.Seq.{append_snoc, length-take-le}
 use Rattle.gray_theory.specs.Places.{placed}
 use Rattle.gray_theory.proofs.Places.{placed-set}
-use Rattle.lister.proofs.put_word.Statement.{statement}
-use Rattle.lister.proofs.put_word.Tie as tie
+use Rattle.lister.proofs.put_word.Goals as goal
 
 -- one byte more, stored where the others end
 one_more : (at k x : ℕ) (p out new : List ℕ) → at + length p ≡ k → k < length out → new ≡ placed at p out
@@ -29,54 +27,11 @@ three_more at k x y z p out new long room so =
     (one_more at (at + k + 1) y q out _ (omega arith) (omega arith)
     (one_more at (at + k) x p out new (omega arith) (omega arith) so)))
 
-sub-k : tie.Need-overflow-sub-k
-sub-k c = search rules
-
-put-requires : tie.Need-put-requires
-put-requires c κs = search rules
-
-add-place : tie.Need-overflow-add-place
-add-place c = search rules
-
-slice-write-out : tie.Need-slice-write-out
-slice-write-out c = search rules
-
-add-next : tie.Need-overflow-add-next
-add-next c = search rules
-
-slice-write-out-2 : tie.Need-slice-write-out-2
-slice-write-out-2 c = simp length-set (omega arith)
-
-add-last : tie.Need-overflow-add-last
-add-last c = search rules
-
-slice-write-out-3 : tie.Need-slice-write-out-3
-slice-write-out-3 c = simp length-set (omega arith)
-
-same_length : tie.Need-same-length
-same_length c = search rules
-
-returns : tie.Need-returns
+pub returns : goal.returns
 returns c =
-    let put = c.before.before in
-    let args = put.before.before.before.args in
+    let args = c.args in
     let k = args.n - 3 in
-    three_more args.at k args.a args.b args.c (take k args.word.now) args.out.now put.put.new.1.1.0
+    three_more args.at k args.a args.b args.c (take k args.word.now) args.out.now c.put.new.out
     (length-take-le k args.word.now (omega arith))
     (omega arith)
-    put.put.ensures
-
-pub put-word-spec : {M : Type 1} → statement M
-put-word-spec =
-    tie.close
-    (tie.spec
-    sub-k
-    put-requires
-    add-place
-    slice-write-out
-    add-next
-    slice-write-out-2
-    add-last
-    slice-write-out-3
-    same_length
-    returns)
+    c.put.ensures
