@@ -5,7 +5,7 @@ use Rattle.reader.specs.Readers.{field_of}
 use Rattle.reader.specs.Stages.{count_of}
 use Rattle.reader.proofs.Readings.{field_unread, field_counted}
 use Rattle.reader.proofs.Reader.end_field.Goals as goal
-use Rattle.reader.proofs.Reader.end_field.Goals.{After-as_count-counted, Start}
+use Rattle.reader.proofs.Reader.end_field.Goals.{After-as_count-counted}
 
 -- what the field says
 says : (c : After-as_count-counted) → count_of (field_of c.args.self) ≡ c.as_count-counted.result
