@@ -1,6 +1,6 @@
 -- `text::put_decimal` meets its contract: the tenth part's digits, and then the last one. Assumes nothing.
 use native.Mathlib.Omega.{arith}
-use Rattle.text_theory.specs.Numerals.{decimal-not-empty}
+use Rattle.text_theory.proofs.Numerals.{decimal-not-empty}
 use Rattle.text.proofs.Putting.{tenth_length, digit_put, last-put}
 use Rattle.text.proofs.+put_decimal.Goals as goal
 

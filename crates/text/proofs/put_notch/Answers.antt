@@ -5,7 +5,7 @@ use mathlib.Core.List.{[], ◌++◌}
 use native.Mathlib.Omega.{arith}
 use Rattle.text_theory.specs.Ascii.{ascii}
 use Rattle.text_theory.specs.Decimals.{decimal}
-use Rattle.text_theory.specs.Numerals.{decimal-length}
+use Rattle.text_theory.proofs.Numerals.{decimal-length}
 use Rattle.text.proofs.Putting.{and_then, same_text}
 use Rattle.text.proofs.put_notch.Goals as goal
 

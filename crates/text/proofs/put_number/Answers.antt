@@ -1,6 +1,6 @@
 -- `text::put_number` meets its contract: 2^64 is below 10^20. Assumes nothing.
 use native.Mathlib.Omega.{arith}
-use Rattle.text_theory.specs.Numerals.{decimal-length}
+use Rattle.text_theory.proofs.Numerals.{decimal-length}
 use Rattle.text.proofs.put_number.Goals as goal
 
 pub put_decimal-requires : goal.put_decimal-requires
