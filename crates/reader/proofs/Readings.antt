@@ -1,7 +1,7 @@
 -- The line of counts read byte by byte: what the proofs of the reader's functions cite.
-use Prim.Native.Nat.{ℕ, ◌≤◌, ◌<◌, min}
+use Prim.Native.Nat.{ℕ, ◌≤◌, ◌<◌}
 use native.Mathlib.Omega.{arith}
-use mathlib.Core.Path.{◌≡◌, refl, sym, ap, ◌∙◌}
+use mathlib.Core.Path.{◌≡◌, refl, ap}
 use mathlib.Core.Bool.{Bool, true, false, cond, ◌&&◌, and-false}
 use mathlib.Core.List.{List}
 use borrow.Author.Tests.{le-ltb, le-leb, lt-leb, eq-eqb, ne_eqb}
@@ -12,20 +12,16 @@ use Rattle.text_theory.specs.Decimals.{value, is_number}
 use Rattle.text_theory.specs.Surveys.{is_count}
 use Rattle.reader.specs.Parsing.{number_of}
 use Rattle.reader.specs.Stages.{count_of}
-use Rattle.reader.specs.Readers.{field_of, in_phase, byte_read, count_kept, field_read, line_read, more_read, found_in}
+use Rattle.reader.specs.Readers.{field_of, in_phase, byte_read, count_kept, field_read, line_read, more_read}
 use Rattle.reader.specs.declared.Phase.{Phase}
-use Rattle.reader.specs.declared.Phase.TheVariants.{More, Ended, Unread}
+use Rattle.reader.specs.declared.Phase.TheVariants.{More, Unread}
 use Rattle.reader.specs.declared.Reader.{Reader}
-use Rattle.reader.specs.declared.Found.TheVariants.{Counts}
 use Rattle.reader.specs.declared.Parsed.TheVariants.{Number, Unread as NoNumber}
 use Rattle.reader.specs.declared.Count.TheVariants.{Is, Unread as NoCount}
 
 pub full : (r : Reader) (b : ℕ) → 3 ≤ r.digits → byte_read r b ≡ in_phase Unread r
 unfolding byte_read
 full r b h = rw (le-ltb r.digits 3 h) refl
-
-pub found-kept : (p : Phase) (n r : ℕ) → p ≡ Ended → r ≡ min n 49 → Counts r ≡ found_in p n
-found-kept p n r e least = ap Counts least ∙ ap (λ q. found_in q n) (sym e)
 
 -- ---- a field as a count
 -- which case of a test an answer came by
