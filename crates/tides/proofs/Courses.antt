@@ -1,9 +1,9 @@
 -- The lines of a file one after another: what the proofs of the functions that go through it cite.
 use Prim.Native.Nat.{ℕ, ◌+◌, ◌-◌, ◌%◌, ◌^◌, ◌≤◌, ◌<◌}
 use native.Mathlib.Omega.{arith}
-use native.Mathlib.Decide.{dec_lt, dec_le}
+use native.Mathlib.Decide.{dec_lt}
 use mathlib.Core.Path.{◌≡◌, refl, sym, ap, ap₂, subst, ◌∙◌}
-use mathlib.Core.Bool.{Bool, true, false, cond, ◌&&◌, ◌||◌, not, beq, and-eq-true_iff, and-false, or-false}
+use mathlib.Core.Bool.{Bool, true, false, cond, ◌&&◌, ◌||◌, not, beq, and-eq-true_iff, or-false}
 use mathlib.Core.List.{List, [], ◌∷◌, map, flatten}
 use borrow.Author.Tests.{le-leb, lt-leb, lt-ltb, le-ltb}
 use lib.Dec.{eqb, leb, ltb}
@@ -21,22 +21,6 @@ use Rattle.tides.specs.declared.line.Line.TheVariants.{Tide as LineTide, Unread}
 use Rattle.tides.specs.declared.course.Course.{Course}
 use Rattle.tides.specs.declared.calls.Passed.TheVariants.{Windows, Refused}
 use Rattle.tides.proofs.line.Readings.{day_right, answer}
-
--- ---- one window
-pub outside : (from to minute : ℕ) → to ≤ minute → false ≡ allows (record { from = from; to = to }) minute
-outside from to minute h =
-    sym (ap (λ t. leb from minute && t) (lt-leb (minute + 4) to (omega arith)) ∙ and-false (leb from minute))
-
-pub inside : (from to minute : ℕ) → minute < to
-    → (leb from minute && leb 4 (to - minute)) ≡ allows (record { from = from; to = to }) minute
-inside from to minute h = ap (λ t. leb from minute && t) (same (minute + 4) to (to - minute) (omega arith))
-  where
-    same : (end to room : ℕ) → room + end ≡ to + 4 → leb 4 room ≡ leb end to
-    same end to room e =
-        elim (dec_le 4 room) [
-          | yes k ↦ le-leb 4 room k ∙ sym (le-leb end to (omega arith))
-          | no k ↦ lt-leb 4 room (omega arith) ∙ sym (lt-leb end to (omega arith))
-        ]
 
 -- ---- what stands before the rest of a file: nothing, or a tide
 pub data Last : Type 0 where

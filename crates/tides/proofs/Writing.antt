@@ -8,7 +8,7 @@ use mathlib.Core.List.{List, [], ◌∷◌, ◌++◌, map}
 use borrow.Author.Tests.{le-ltb, lt-ltb}
 use lib.Dec.{ltb, eqb}
 use lib.ListN.{length, get_or, take, drop, set, length-map, length-take, length-drop, get_or-map}
-use lib.Seq.{drop-cons, drop-drop, set_at, take-suc, take-length, length-take-le, append_snoc, get_or-take}
+use lib.Seq.{drop-cons, drop-drop, set_at, take-suc, length-take-le, append_snoc, get_or-take}
 use Rattle.gray_theory.specs.Bools.{impossible}
 use Rattle.tides_theory.specs.Lines.{low_letter, lines_in, notice_in, is_line, all_lines}
 use Rattle.tides_theory.specs.Windows.{Tide, tide_of, follows, in_order, Window, window_of, windows, no_window, moves_that_fit}
@@ -297,15 +297,3 @@ module _ (file before out : List ℕ) (at i : ℕ) (p : Put file before out at i
         left = rw (add-one i) rest;
         written = rw (add-one i) (ap (λ o. set o i count) p.written ∙ stored cs before i count (omega arith) room value);
       }
-
--- all counts are written
-pub put_all : (file before out : List ℕ) (at i windows : ℕ) → Put file before out at i → windows ≡ length (windows_in file) → windows ≤ i
-    → out ≡ map moves_that_fit (windows_in file) ++ drop windows before
-put_all file before out at i windows p e end =
-    let cs : List ℕ = map moves_that_fit (windows_in file) in
-    let few = p.few in
-    let same : i ≡ length cs = omega (arith, length-map (windows_in file) moves_that_fit) in
-    let all : i ≡ windows = omega arith in
-    p.written
-    ∙ ap₂ (λ (x y : ℕ). take x cs ++ drop y before) same all
-    ∙ ap (λ t. t ++ drop windows before) (take-length cs)

@@ -1,15 +1,14 @@
 -- What the answers of tests say.
 use mathlib.Core.Path.{◌≡◌, refl, sym, ◌∙◌}
-use mathlib.Core.Bool.{Bool, true, false, ◌&&◌, not}
-use borrow.Author.Tests.{not-true, not-false}
+use mathlib.Core.Bool.{Bool, true, false, ◌&&◌}
 use Rattle.gray_theory.specs.Bools.{impossible}
 
 -- a test that was answered no has failed, and one that was answered yes has passed
-pub failed : {answer test : Bool} → answer ≡ test → not answer ≡ true → test ≡ false
-failed {answer} e h = sym e ∙ not-true answer h
+pub failed : {answer test : Bool} → answer ≡ test → answer ≡ false → test ≡ false
+failed e h = sym e ∙ h
 
-pub passed : {answer test : Bool} → answer ≡ test → not answer ≡ false → test ≡ true
-passed {answer} e h = sym e ∙ not-false answer h
+pub passed : {answer test : Bool} → answer ≡ test → answer ≡ true → test ≡ true
+passed e h = sym e ∙ h
 
 -- tests that have passed together have passed each
 pub all_three : (a b c : Bool) → (a && b && c) ≡ true → (a ≡ true) × (b ≡ true) × (c ≡ true)
