@@ -10,6 +10,7 @@ use mathlib.Core.Option.{Option, some}
 use borrow.Author.Tests.{eq-eqb, ne_eqb, eqb-true, leb-true, lt-ltb, le-ltb}
 use lib.Dec.{eqb, leb}
 use Rattle.gray_theory.specs.Bools.{impossible}
+use Rattle.gray_theory.specs.Words.{even}
 use Rattle.gray_theory.specs.Directions.{moved_from, turned_at, digit_in_range}
 use Rattle.gray_theory.proofs.DigitRanges.{digit_says}
 use Rattle.digit.specs.Advances.{advanced_from}
@@ -130,6 +131,14 @@ module _ (n m turn : ℕ) (other : Option ℕ) where
 
   pub other_found : (i : ℕ) → m - 1 ≤ turn → found n i ≡ other → found n i ≡ cond (sweeping m turn) (some 0) other
   other_found i h e = e ∙ sym (ap (λ b. cond b (some 0) other) (le-ltb turn (m - 1) h))
+
+-- ---- which game is played, by the rest that the code tests
+module _ (m : ℕ) where
+  pub odd_rest : (m % 2 ≡ 0 → ⊥) → not (even m) ≡ true
+  odd_rest nz = ap not (ne_eqb (m % 2) 0 nz)
+
+  pub no_rest : m % 2 ≡ 0 → not (even m) ≡ false
+  no_rest z = ap not (eq-eqb (m % 2) 0 z)
 
 -- ---- the turn
 pub one_of_two : (odd : Bool) (m turn : ℕ) → turn < cond odd 2 m → odd ≡ true → turn ≤ 1
