@@ -10,11 +10,12 @@ use borrow.Author.Tests.{ltb-true, leb-true, eqb-true, eq-eqb, ne_eqb}
 use lib.Dec.{eqb}
 use lib.ListN.{length, set, take, drop, length-append}
 use Rattle.gray_theory.specs.Arrays.{filled}
-use Rattle.gray_theory.specs.Filled.{length-filled}
-use Rattle.gray_theory.specs.Places.{placed, placed-none, placed-set}
+use Rattle.gray_theory.proofs.Filled.{length-filled}
+use Rattle.gray_theory.specs.Places.{placed}
+use Rattle.gray_theory.proofs.Places.{placed-none, placed-set}
 use Rattle.ahead_theory.specs.Locals as theory
 use Rattle.ahead_theory.specs.Locals.{Fast, FastRan, fast_call, fast_then, fast_run}
-use Rattle.ahead_theory.specs.Stretches.{CallKept, call_kept, run-kept}
+use Rattle.ahead_theory.proofs.Stretches.{CallKept, call_kept, run-kept}
 use Rattle.stretch.specs.declared.Stage.{Stage}
 use Rattle.stretch.specs.declared.Called.{Called}
 use Rattle.stretch.specs.declared.Ran.{Ran}

@@ -8,9 +8,9 @@ use lib.Seq.{length-take-le}
 use Rattle.digit.specs.Moving.{moving_as}
 use Rattle.gray_theory.specs.Radices.{digits}
 use Rattle.gray_theory.specs.Capacities.{Openable}
-use Rattle.gray_theory.specs.Refusals.{survey_call_given}
+use Rattle.gray_theory.proofs.Refusals.{survey_call_given}
 use Rattle.gray.specs.Enums.{counted_as}
-use Rattle.gray.specs.Passing.{survey_passed_on}
+use Rattle.gray.proofs.Passing.{survey_passed_on}
 use Rattle.ahead.specs.Structs.{walk_as}
 use Rattle.ahead.proofs.Openings.{few_digits, opening_refused, opening_given}
 use borrow.Author.Rules.{rules}

@@ -10,9 +10,9 @@ use Rattle.digit.specs.Moving.{moving_as}
 use Rattle.gray_theory.specs.Radices.{digits, size}
 use Rattle.gray_theory.specs.Words.{is_word, rank}
 use Rattle.gray_theory.specs.Capacities.{Openable}
-use Rattle.gray_theory.specs.Refusals.{survey_call_given}
+use Rattle.gray_theory.proofs.Refusals.{survey_call_given}
 use Rattle.gray.specs.Enums.{counted_as}
-use Rattle.gray.specs.Passing.{survey_passed_on}
+use Rattle.gray.proofs.Passing.{survey_passed_on}
 use Rattle.ahead.specs.Structs.{walk_as}
 use Rattle.ahead.proofs.Openings.{ranked_on, ranked_through, few_digits, resuming_refused}
 use Rattle.ahead.proofs.Resumes.{Resumable, rank_within, stands_at, resume_unfilled, resuming_given}

@@ -2,7 +2,7 @@
 use native.Mathlib.Omega.{arith}
 use lib.Seq.{length-take-le}
 use Rattle.ahead_theory.specs.States.{Arrays}
-use Rattle.ahead_theory.specs.InRange.{range_says}
+use Rattle.ahead_theory.proofs.InRange.{range_says}
 use Rattle.ahead.specs.Structs.{walk_as}
 use Rattle.ahead.proofs.Calls.{room_left, room_never}
 use borrow.Author.Rules.{rules}

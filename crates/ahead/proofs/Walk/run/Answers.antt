@@ -1,6 +1,6 @@
 -- `ahead::Walk::run` meets its contract: each path is one course of a run. Assumes nothing.
 use mathlib.Core.Path.{sym, ◌∙◌}
-use Rattle.gray_theory.specs.SingleCalls.{run_out_of_range_is_refused, run_into_shorter_memory_is_refused}
+use Rattle.gray_theory.proofs.SingleCalls.{run_out_of_range_is_refused, run_into_shorter_memory_is_refused}
 use Rattle.ahead.proofs.Calls.{run_unmoved, run_halted}
 use Rattle.ahead.proofs.Walk.run.Goals as goal
 

@@ -7,7 +7,7 @@ use borrow.Author.Rules.{rules}
 use Rattle.ahead_theory.specs.States.{Producer, Walk, moving_radices, in_range, Arrays}
 use Rattle.ahead_theory.specs.Work.{work}
 use Rattle.ahead_theory.specs.Calls.{once, twice}
-use Rattle.ahead_theory.specs.InRange.{Reached, range_says, reached_none}
+use Rattle.ahead_theory.proofs.InRange.{Reached, range_says, reached_none}
 use Rattle.ahead.specs.Structs.{walk_as}
 use Rattle.ahead.specs.Stages.{moving_of}
 use Rattle.ahead.proofs.Ranges.{ranged_known, moving_count, moving_most, moving-numbers, moving_radices_lem}

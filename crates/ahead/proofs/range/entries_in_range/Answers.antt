@@ -1,6 +1,6 @@
 -- `ahead::range::entries_in_range` meets its contract: after i turns the first i entries are tested. Assumes nothing.
 use native.Mathlib.Omega.{arith}
-use Rattle.gray_theory.specs.DigitRanges.{tested_none, tested_more}
+use Rattle.gray_theory.proofs.DigitRanges.{tested_none, tested_more}
 use Rattle.ahead.proofs.range.entries_in_range.Goals as goal
 
 pub loop-i-init : goal.loop-i-init

@@ -4,8 +4,9 @@ use mathlib.Core.Path.{◌≡◌, sym, ap, ◌∙◌}
 use native.Mathlib.Omega.{arith}
 use lib.Dec.{ltb}
 use lib.ListN.{get_or}
-use Rattle.gray_theory.specs.DigitRanges.{tested_none, tested_more}
-use Rattle.gray_theory.specs.Unlocked.{looked_up, looked_up_at}
+use Rattle.gray_theory.proofs.DigitRanges.{tested_none, tested_more}
+use Rattle.gray_theory.specs.Unlocked.{looked_up}
+use Rattle.gray_theory.proofs.Unlocked.{looked_up_at}
 use Rattle.ahead.proofs.range.moving_below.Goals as goal
 use Rattle.ahead.proofs.range.moving_below.Goals.{After-wide-d}
 

@@ -4,8 +4,8 @@ use lib.Dec.{ltb}
 use lib.ListN.{length, get_or}
 use native.Mathlib.Omega.{arith}
 use borrow.Author.Rules.{rules}
-use Rattle.gray_theory.specs.DigitRanges.{tested_none}
-use Rattle.gray_theory.specs.Gathers.{gathered_more, gathered}
+use Rattle.gray_theory.proofs.DigitRanges.{tested_none}
+use Rattle.gray_theory.proofs.Gathers.{gathered_more, gathered}
 use Rattle.ahead.proofs.range.places_below.Goals as goal
 
 pub loop-i-init : goal.loop-i-init

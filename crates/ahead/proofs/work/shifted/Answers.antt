@@ -7,7 +7,7 @@ use mathlib.Core.Path.{◌≡◌, sym, ap, ◌∙◌}
 use borrow.Author.Rules.{rules}
 use lib.ListN.{length, get_or, drop, length-drop}
 use lib.Seq.{get_or-drop}
-use Rattle.gray_theory.specs.Filled.{fill_more}
+use Rattle.gray_theory.proofs.Filled.{fill_more}
 use Rattle.ahead.proofs.work.shifted.Goals as goal
 use Rattle.ahead.proofs.work.shifted.Goals.{Start}
 
