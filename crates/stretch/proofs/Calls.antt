@@ -1,5 +1,5 @@
 -- What a call of a stretch asks of its stages and answers, over plain lists and numbers. Assumes nothing.
-use Prim.Native.Nat.{ℕ, ◌+◌, ◌≤◌, ◌<◌}
+use Prim.Native.Nat.{ℕ, ◌+◌, ◌≤◌}
 use native.Mathlib.Omega.{arith}
 use mathlib.Core.Path.{◌≡◌, sym, ap, subst, ◌∙◌}
 use mathlib.Core.List.{List}
@@ -10,7 +10,7 @@ use Rattle.ahead_theory.specs.Locals as theory
 use Rattle.ahead_theory.specs.Stretches.{backed, Undone}
 use Rattle.ahead_theory.proofs.Stretches.{dry_undone, Kept, work-kept, twice-kept}
 use Rattle.stretch.specs.declared.Stage.{Stage}
-use Rattle.stretch.specs.Stages.{fast_of, called_as, FastWorkable, FastMovable, Moves, FastCallable}
+use Rattle.stretch.specs.Stages.{fast_of, called_as, FastWorkable, Moves, FastCallable}
 
 abbrev answer : ℕ → ℕ → Fast → List ℕ → List ℕ → theory.Called
 answer kind byte g left bytes = record { kind = kind; byte = byte; fast = g; left = left; bytes = bytes }
@@ -50,10 +50,6 @@ module _
           small = omega arith;
         }
 
-    -- a digit can move
-    pub movable : (e : ℕ) → e ≤ 255 → FastMovable tops left bytes e
-    movable e l = record { tops_long = ok.tops_long; left_long = ok.left_long; bytes_long = ok.bytes_long; inside = l }
-
     -- ---- after both
     module _ (rest' queue' : List ℕ) (at' : Stage) (is : fast_of rest' queue' at' ≡ f2) where
       both_kept : Kept last 2 f (fast_of rest' queue' at')
@@ -65,13 +61,6 @@ module _
           let l = b.to_last in
           let most = ok.most in
           (b.rest_long ∙ ok.rest_long, omega arith)
-
-      pub entry_fits : k < length queue'
-      entry_fits =
-          let b = both_kept.queue_long in
-          let q = ok.queue_long in
-          let calls = ok.calls in
-          omega arith
 
       -- dry
       pub runs_dry : at'.tail ≡ k → (back : List ℕ) → back ≡ backed rest' at.place at'.place

@@ -1,16 +1,14 @@
 -- What the code of a stretch answers on each of its paths, over plain lists and numbers. Assumes nothing.
 use Prim.Native.Nat.{ℕ, ◌+◌, ◌-◌, ◌^◌, ◌≤◌, ◌<◌}
-use mathlib.Core.Path.{◌≡◌, refl, sym}
+use mathlib.Core.Path.{◌≡◌}
 use mathlib.Core.Bool.{false, ◌&&◌}
 use mathlib.Core.List.{List}
-use borrow.Author.Tests.{lt-ltb, le-ltb, le-leb, lt-leb, eq-eqb, ne_eqb}
+use borrow.Author.Tests.{lt-ltb, le-ltb, eq-eqb, ne_eqb}
 use lib.Dec.{eqb, leb, ltb, leb-suc-suc}
 use lib.ListN.{length, get_or, set}
-use lib.Seq.{set-get_or}
-use Rattle.ahead_theory.specs.Locals.{fast_work, turned_byte}
-use Rattle.ahead_theory.specs.Stretches.{backed}
+use Rattle.ahead_theory.specs.Locals.{fast_work}
 use Rattle.stretch.specs.declared.Stage.{Stage}
-use Rattle.stretch.specs.Stages.{fast_of, Moves, fits_for}
+use Rattle.stretch.specs.Stages.{fast_of, fits_for}
 
 -- ---- a work step
 module _ (tops : List ℕ) (last bound : ℕ) (rest queue : List ℕ) (at : Stage) where
@@ -37,38 +35,6 @@ module _ (tops : List ℕ) (last bound : ℕ) (rest queue : List ℕ) (at : Stag
     pub stays_full : bound ≤ at.tail → fast_of rest queue at ≡ fast_work tops last bound (fast_of rest queue at)
     unfolding fast_work
     stays_full l = rw (ne_eqb (get_or rest at.place 0) 0 some, le-ltb at.tail bound l)
-
--- ---- carries undone
-module _ (rest : List ℕ) (from to : ℕ) where
-  pub back_none : to ≤ from → rest ≡ backed rest from to
-  back_none l = rw (le-ltb from to l)
-
-  pub back_one : from < to → to ≤ from + 1 → set rest from 0 ≡ backed rest from to
-  back_one l m = rw (lt-ltb from to l, le-ltb (from + 1) to m)
-
-  pub back_two : from < to → from + 1 < to → set (set rest from 0) (from + 1) 0 ≡ backed rest from to
-  back_two l m = rw (lt-ltb from to l, lt-ltb (from + 1) to m)
-
--- ---- a digit moves
-pub byte_up : (b : ℕ) → b < 128 → b + 128 ≡ turned_byte b
-byte_up b l = rw (lt-ltb b 128 l)
-
-pub byte_down : (b : ℕ) → 128 ≤ b → b - 128 ≡ turned_byte b
-byte_down b l = rw (le-ltb b 128 l)
-
-module _ (tops left bytes : List ℕ) (i : ℕ) where
-  pub turns : (b : ℕ)
-      → get_or left i 0 ≤ 1
-      → b ≡ turned_byte (get_or bytes i 0)
-      → Moves tops left bytes i (get_or bytes i 0) (set left i (get_or tops i 0)) (set bytes i b)
-  turns b l e = record { byte_is = refl; left_is = rw (le-leb (get_or left i 0) 1 l); bytes_is = rw (le-leb (get_or left i 0) 1 l, e) }
-
-  pub goes_on : 1 < get_or left i 0 → Moves tops left bytes i (get_or bytes i 0) (set left i (get_or left i 0 - 1)) bytes
-  goes_on l = record {
-    byte_is = refl;
-    left_is = rw (lt-leb (get_or left i 0) 1 l);
-    bytes_is = rw (lt-leb (get_or left i 0) 1 l) (sym (set-get_or bytes i 0));
-  }
 
 -- ---- whether a stretch fits
 module _ (last c limit : ℕ) (tops rest left bytes : List ℕ) (at : Stage) (done : ℕ) (out : List ℕ) where

@@ -4,15 +4,15 @@ use Prim.Native.Nat.{ℕ, suc, ◌+◌, ◌-◌, ◌^◌, ◌≤◌, ◌<◌}
 use native.Mathlib.Decide.{dec_lt}
 use native.Mathlib.Omega.{arith}
 use mathlib.Core.Path.{◌≡◌, refl, sym, ap, subst, ◌∙◌}
-use mathlib.Core.Bool.{Bool, true, false, cond, not, false≢true, and-eq-true_iff}
+use mathlib.Core.Bool.{Bool, true, false, cond, false≢true, and-eq-true_iff}
 use mathlib.Core.List.{List, [], ◌∷◌, ◌++◌, append-nil, append_assoc}
-use borrow.Author.Tests.{ltb-true, leb-true, eqb-true, not-true, not-false, eq-eqb, ne_eqb}
+use borrow.Author.Tests.{ltb-true, leb-true, eqb-true, eq-eqb, ne_eqb}
 use lib.Dec.{eqb}
 use lib.ListN.{length, set, take, drop, length-append}
 use Rattle.gray_theory.specs.Arrays.{filled}
 use Rattle.gray_theory.proofs.Filled.{length-filled}
 use Rattle.gray_theory.specs.Places.{placed}
-use Rattle.gray_theory.proofs.Places.{placed-none, placed-set, length-placed}
+use Rattle.gray_theory.proofs.Places.{placed-none, placed-set}
 use Rattle.ahead_theory.specs.Locals as theory
 use Rattle.ahead_theory.specs.Locals.{Fast, FastRan, fast_call, fast_then, fast_run}
 use Rattle.ahead_theory.proofs.Stretches.{CallKept, call_kept, run-kept}
@@ -20,25 +20,7 @@ use Rattle.stretch.specs.declared.Stage.{Stage}
 use Rattle.stretch.specs.declared.Called.{Called}
 use Rattle.stretch.specs.declared.Ran.{Ran}
 use Rattle.stretch.proofs.Paths.{fits_none, fits_some}
-use Rattle.stretch.specs.Stages.{fast_of, called_as, Outcome, ran_as, ran_into, calls_by, stretch_as, from_oldest, fits_for, stretch_by, FastCallable, Long, Runnable}
-
--- the arrays' lengths stay the same
-pub record Same (rest queue left bytes rest₀ queue₀ left₀ bytes₀ : List ℕ) : Type 0 where
-  pub of_rest : length rest ≡ length rest₀
-  pub of_queue : length queue ≡ length queue₀
-  pub of_left : length left ≡ length left₀
-  pub of_bytes : length bytes ≡ length bytes₀
-
-same_long : (rest queue left bytes rest₀ queue₀ left₀ bytes₀ : List ℕ)
-    → Long rest queue left bytes
-    → Long rest₀ queue₀ left₀ bytes₀
-    → Same rest queue left bytes rest₀ queue₀ left₀ bytes₀
-same_long rest queue left bytes rest₀ queue₀ left₀ bytes₀ l l₀ = record {
-  of_rest = l.rest_long ∙ sym l₀.rest_long;
-  of_queue = l.queue_long ∙ sym l₀.queue_long;
-  of_left = l.left_long ∙ sym l₀.left_long;
-  of_bytes = l.bytes_long ∙ sym l₀.bytes_long;
-}
+use Rattle.stretch.specs.Stages.{fast_of, called_as, Outcome, ran_as, ran_into, calls_by, stretch_as, from_oldest, fits_for, stretch_by, Long, Runnable}
 
 -- ---- the loop
 -- bytes of earlier calls, and what the later ones leave
@@ -67,7 +49,6 @@ cond_3 b d x y z e o = rw (e, o)
 
 pub record Going (last c limit : ℕ) (tops rest₀ queue₀ left₀ bytes₀ : List ℕ) (at₀ : Stage) (done : ℕ) (before : List ℕ)
     (rest queue left bytes out : List ℕ) (at : Stage) (k : ℕ) : Type 0 where
-  pub start : Long rest₀ queue₀ left₀ bytes₀
   pub fits : Runnable last c limit tops rest queue left bytes at k done before
   pub small : length before < 2 ^ 64
   pub within : k ≤ limit
@@ -86,7 +67,6 @@ module _ (last c limit : ℕ) (tops rest₀ queue₀ left₀ bytes₀ : List ℕ
   begun f small =
       let all : limit ≡ limit - 0 = omega arith in
       record {
-        start = f.long;
         fits = f;
         small = small;
         within = omega arith;
@@ -101,16 +81,6 @@ module _ (last c limit : ℕ) (tops rest₀ queue₀ left₀ bytes₀ : List ℕ
       (g : Going last c limit tops rest₀ queue₀ left₀ bytes₀ at₀ done before rest queue left bytes out at k) where
     abbrev f : Fast
     f = fast_of rest queue at
-
-    pub out_long : length out ≡ length before
-    out_long =
-        let n = g.count in
-        let h = g.within in
-        let r = g.fits.room in
-        ap length g.holds ∙ length-placed done g.sofar before (omega arith)
-
-    pub now_same : Same rest queue left bytes rest₀ queue₀ left₀ bytes₀
-    now_same = same_long rest queue left bytes rest₀ queue₀ left₀ bytes₀ g.fits.long g.start
 
     -- nothing more is written
     finished : (r : FastRan) → r.written ≡ []
@@ -135,26 +105,6 @@ module _ (last c limit : ℕ) (tops rest₀ queue₀ left₀ bytes₀ : List ℕ
         (ap (λ j. fast_run tops last c j k f left bytes) none)
 
     module _ (less : k < limit) where
-      pub callable : FastCallable last c k tops rest queue left bytes at
-      callable =
-          let b = g.fits in
-          let calls = b.calls in
-          let s = b.steps_few in
-          record {
-            tops_long = b.tops_long;
-            rest_long = b.long.rest_long;
-            left_long = b.long.left_long;
-            bytes_long = b.long.bytes_long;
-            queue_long = b.long.queue_long;
-            from_one = b.from_one;
-            most = b.most;
-            to_last = b.to_last;
-            small_c = b.small_c;
-            calls = omega arith;
-            behind = g.behind;
-            small = omega arith;
-          }
-
       module _ (r : Called) (rest' queue' left' bytes' : List ℕ)
           (is : called_as r rest' queue' left' bytes' ≡ fast_call tops last c k f left bytes) where
         abbrev a : theory.Called
@@ -175,9 +125,6 @@ module _ (last c limit : ℕ) (tops rest₀ queue₀ left₀ bytes₀ : List ℕ
               left_long = n.left_long ∙ b.left_long;
               bytes_long = n.bytes_long ∙ b.bytes_long;
             }
-
-        pub then_same : Same rest' queue' left' bytes' rest₀ queue₀ left₀ bytes₀
-        then_same = same_long rest' queue' left' bytes' rest₀ queue₀ left₀ bytes₀ long g.start
 
         -- this call, and then those that are left
         next : fast_run tops last c (limit - k) k f left bytes
@@ -216,7 +163,6 @@ module _ (last c limit : ℕ) (tops rest₀ queue₀ left₀ bytes₀ : List ℕ
             let place : done + k ≡ done + length g.sofar = omega arith in
             let more = fast_run tops last c (limit - (k + 1)) (k + 1) a.fast left' bytes' in
             record {
-              start = g.start;
               fits = record {
                 long = long;
                 tops_long = b.tops_long;
@@ -291,18 +237,18 @@ module _ (last c limit : ℕ) (tops rest left bytes entries : List ℕ) (at : St
   -- arrays and numbers that do not fit
   pub refuses : (ok : Bool)
       → ok ≡ fits_for last c limit tops rest left bytes at done out
-      → not ok ≡ true
+      → ok ≡ false
       → stretch_as (record { made = 0; entries = entries; at = at; stop = 3 }) rest left bytes out
       ≡ stretch_by last c limit tops rest left bytes entries at done out
   unfolding stretch_by
-  refuses ok is refused = rw (sym is ∙ not-true ok refused)
+  refuses ok is refused = rw (sym is ∙ refused)
 
   module _
-      (ok : Bool) (is : ok ≡ fits_for last c limit tops rest left bytes at done out) (accepted : not ok ≡ false)
+      (ok : Bool) (is : ok ≡ fits_for last c limit tops rest left bytes at done out) (accepted : ok ≡ true)
       (entries_long : length entries ≡ 32) (queue : List ℕ) (queue-is : queue ≡ filled 1056 0 entries)
     where
       says : fits_for last c limit tops rest left bytes at done out ≡ true
-      says = sym is ∙ not-false ok accepted
+      says = sym is ∙ accepted
 
       pub runnable : Runnable last c limit tops rest queue left bytes at 0 done out
       runnable = fit says queue (ap length queue-is ∙ length-filled 1056 0 entries (omega (arith, entries_long)))
