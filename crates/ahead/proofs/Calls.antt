@@ -324,9 +324,6 @@ module _ (w₀ : Walk) (limit : ℕ) (before : List ℕ) where
           let f = s.ready.fits in
           ap length s.leaves ∙ length-placed 0 s.written before (omega arith)
 
-      pub limit_small : limit < 2 ^ 63
-      limit_small = let m = s.ready.more in let z = small_size s.ready in omega arith
-
       stands_wide : (w : Walk) → Stands w₀ w 0 tops left bytes (fast_from rest entries at) → Wide tops rest left bytes
       stands_wide w st = record {
         tops_long = s.tops_are.long;
@@ -392,35 +389,6 @@ module _ (w₀ : Walk) (limit : ℕ) (before : List ℕ) where
             tail_small = omega arith;
             small = omega arith;
           }
-
-      -- no call is left to make
-      pub calls_halted : (ltb done limit && eqb stop 0) ≡ false
-          → (w : Walk)
-          → Unloaded w₀ tops rest left bytes entries at done (eqb stop 1) w
-          → Calls w₀ limit before out w done stop
-      calls_halted none w unloaded =
-          let h = s.within in
-          let z = limit_small in
-          record { written = s.written; moved_by = s.moved_by; leaves = s.leaves; small = omega arith; halted = by s.here }
-        where
-          all : stop ≡ 0 → limit ≤ done
-          all z =
-              elim (dec_lt done limit) [
-                | yes l ↦
-                    let e = ap₂ (λ (x y : Bool). x && y) (lt-ltb done limit l) (eq-eqb stop 0 z) in
-                    impossible (cc)
-                | no l ↦ omega (arith, l)
-              ]
-
-          by : CallsAt w₀ limit tops rest left bytes entries at done stop → CallsHalted w₀ limit w done stop
-          by (on_way z o st) =
-              let h = s.within in
-              let a = all z in
-              let is = unloaded (state w₀ done) (way_unloads (λ e. absurd (omega arith)) o st) in
-              calls.full z (omega arith) is (ap (λ (x : Walk). x.moves) is ∙ o.moves)
-              (ap survey is ∙ ap₂ (λ (k : ℕ) (y : List ℕ). take k y) st.n st.radices)
-          by (at_end z m e st) = calls.ends z m e.answers (unloaded (step_of (state w₀ done)).state (end_unloads z e st))
-          by (is_dry z m an o st) = calls.dries z m an (unloaded (state w₀ done) (way_unloads (λ e. absurd (omega arith)) o st))
 
       -- a stretch more
       module _ (goes : (ltb done limit && eqb stop 0) ≡ true) where
@@ -521,30 +489,6 @@ module _ (w : Walk) (ranged : in_range w ≡ true) (k : ℕ) (same : k ≡ w.dir
   room_never x is =
       let f = not_open w (survey_refused (survey w) _ x (size-says ∙ ap counted_as is)) in
       impossible (cc)
-
-pub calls_ready : (w : Walk) (t room limit : ℕ) (out : List ℕ)
-    → in_range w ≡ true
-    → w.ended ≡ false
-    → t ≤ length out
-    → Room w room
-    → limit ≡ cond (ltb t room) t room
-    → Callable w limit out
-calls_ready w t room limit out ranged going fits left cut =
-    let lf = left.left in
-    elim (dec_lt t room) [
-      | yes h ↦
-          let e = cut ∙ ap (λ x. cond x t room) (lt-ltb t room h) in
-          record { ranged = ranged; going = going; more = omega arith; fits = omega arith }
-      | no h ↦
-          let e = cut ∙ ap (λ x. cond x t room) (le-ltb t room (omega arith)) in
-          record { ranged = ranged; going = going; more = omega arith; fits = omega arith }
-    ]
-
-pub min_first : (a b : ℕ) → a < b → a ≡ cond (ltb a b) a b
-min_first a b h = rw (lt-ltb a b h)
-
-pub min_second : (a b : ℕ) → b ≤ a → b ≡ cond (ltb a b) a b
-min_second a b h = rw (le-ltb a b h)
 
 -- ---- the call
 module _ (w : Walk) (t : ℕ) (before : List ℕ) where
@@ -663,25 +607,3 @@ module _ (w : Walk) (t : ℕ) (before : List ℕ) where
           -- what its calls come to
           pub run_halted : (a : Answer Outcome) → a ≡ outcome_of made (stop_by stop made t) → handed v a out ≡ run_of w t before
           run_halted a is = ap (λ (x : Answer Outcome). handed v x out) is ∙ by b.halted
-
--- ---- what it says
-pub unmoved_none : (t : ℕ) → t ≡ 0 → outcome_of 0 nothing ≡ outcome_of 0 (cond (eqb t 0) nothing end)
-unmoved_none t z = rw (eq-eqb t 0 z)
-
-pub unmoved_some : (t : ℕ) → (t ≡ 0 → ⊥) → outcome_of 0 end ≡ outcome_of 0 (cond (eqb t 0) nothing end)
-unmoved_some t some = rw (ne_eqb t 0 some)
-
-module _ (stop made t : ℕ) where
-  pub outcome_ends : stop ≡ 1 → outcome_of made end ≡ outcome_of made (stop_by stop made t)
-  outcome_ends e = rw (eq-eqb stop 1 e)
-
-  module _ (one : stop ≡ 1 → ⊥) where
-    pub outcome_dries : stop ≡ 2 → outcome_of made (refusal 10) ≡ outcome_of made (stop_by stop made t)
-    outcome_dries e = rw (ne_eqb stop 1 one, eq-eqb stop 2 e)
-
-    module _ (two : stop ≡ 2 → ⊥) where
-      pub outcome_past : made < t → outcome_of made (refusal 7) ≡ outcome_of made (stop_by stop made t)
-      outcome_past h = rw (ne_eqb stop 1 one, ne_eqb stop 2 two, lt-ltb made t h)
-
-      pub outcome_all : t ≤ made → outcome_of made nothing ≡ outcome_of made (stop_by stop made t)
-      outcome_all h = rw (ne_eqb stop 1 one, ne_eqb stop 2 two, le-ltb made t h)

@@ -21,7 +21,7 @@ use Rattle.ahead_theory.specs.Locals.{ToGo, Notch, Numbered}
 use Rattle.ahead_theory.proofs.LocalCalls.{numbered}
 use Rattle.stretch.specs.declared.Stage.{Stage}
 use Rattle.ahead.proofs.Ranges.{ranged_known, moving_most}
-use Rattle.ahead.specs.Stretches.{Wide, Loadable, LoadedOne, Loaded, CounterFits, CounterBack, WordFits, Target, Pending, WordBack, Unloads, Unloadable}
+use Rattle.ahead.specs.Stretches.{Wide, Loadable, LoadedOne, Loaded, CounterBack, WordFits, Target, Pending, WordBack, Unloads, Unloadable}
 
 -- ---- the counter
 pub record CounterTo (last : ℕ) (tops rest before : List ℕ) (i : ℕ) (now : List ℕ) : Type 0 where
@@ -29,32 +29,6 @@ pub record CounterTo (last : ℕ) (tops rest before : List ℕ) (i : ℕ) (now :
   pub each : (x : ℕ) → x < i → get_or now x 0 ≡ get_or tops (x + 1) 0 - get_or rest (x + 1) 0
   pub others : (x : ℕ) → i ≤ x → get_or now x 0 ≡ get_or before x 0
   pub long : length now ≡ length before
-
-module _ (last : ℕ) (tops rest before : List ℕ) (fits : CounterFits last tops rest before) where
-  pub counter_begun : CounterTo last tops rest before 0 before
-  counter_begun = record { within = omega arith; each = λ x h. absurd (omega arith); others = λ x h. refl; long = refl }
-
-  pub counter_more : (i : ℕ) (now : List ℕ) → i < last → CounterTo last tops rest before i now → CounterTo last tops rest before (i + 1) (set now i (get_or tops (i + 1) 0 - get_or rest (i + 1) 0))
-  counter_more i now less s =
-      let v = get_or tops (i + 1) 0 - get_or rest (i + 1) 0 in
-      let l = s.long in
-      let b = fits.counter_long in
-      let m = fits.most in
-      record {
-        within = omega arith;
-        each = λ x h.
-            elim (ℕ_discrete x i) [
-              | yes e ↦ rw e (get_or-set_same now i v 0 (omega arith))
-              | no n ↦ get_or-set_other now i x v 0 n ∙ s.each x (omega arith)
-            ];
-        others = λ x h. get_or-set_other now i x v 0 (λ e. absurd (omega arith)) ∙ s.others x (omega arith);
-        long = length-set now i v ∙ l;
-      }
-
-  pub counter_all : (i : ℕ) (now : List ℕ) → last ≤ i → CounterTo last tops rest before i now → CounterBack last tops rest before now
-  counter_all i now all s =
-      let w = s.within in
-      record { each = λ x h. s.each x (omega arith); others = λ x h. s.others x (omega arith); long = s.long }
 
 -- ---- the word
 pub record WordTo (count : ℕ) (numbers tops left bytes word₀ : List ℕ) (downs₀ : List Bool) (i : ℕ) (word : List ℕ) (downs : List Bool) : Type 0 where
@@ -67,9 +41,6 @@ pub record WordTo (count : ℕ) (numbers tops left bytes word₀ : List ℕ) (do
       → Pending word★ downs★ numbers count i word downs
 
 module _ (count : ℕ) (numbers tops left bytes word₀ : List ℕ) (downs₀ : List Bool) (fits : WordFits count numbers tops left bytes word₀ downs₀) where
-  pub word-begun : WordTo count numbers tops left bytes word₀ downs₀ 0 word₀ downs₀
-  word-begun = record { within = omega arith; word_long = fits.word_long; downs_long = fits.downs_long; pending = λ w d t p. p }
-
   pub word_more : (i : ℕ) (word : List ℕ) (downs : List Bool) (d v : ℕ) (down : Bool)
       → i < count
       → WordTo count numbers tops left bytes word₀ downs₀ i word downs
@@ -143,23 +114,6 @@ pub record LoadedTo (radices digits word : List ℕ) (downs : List Bool) (counte
   pub top : (x : ℕ) → x < i → get_or tops (x + 1) 0 + 1 ≡ get_or radices (get_or digits x 0 - 1) 0
   pub counts : (x : ℕ) → x < i → get_or rest (x + 1) 0 + get_or counter x 0 ≡ get_or tops (x + 1) 0
   pub notch : (x : ℕ) → x < i → NotchAt digits word downs tops left bytes x
-
-pub loaded_none : (radices digits word : List ℕ) (downs : List Bool) (counter tops rest left bytes : List ℕ)
-    → Wide tops rest left bytes
-    → LoadedTo radices digits word downs counter 0 tops rest left bytes
-loaded_none radices digits word downs counter tops rest left bytes wide = record {
-  wide = wide;
-  top = λ x h. absurd (omega arith);
-  counts = λ x h. absurd (omega arith);
-  notch = λ x h. absurd (omega arith);
-}
-
-pub loaded_one : (i m b number a : ℕ) (down : Bool) (tops rest left bytes : List ℕ) (u v : ℕ)
-    → u ≡ cond down a (m - 1 - a)
-    → v ≡ move_byte number down
-    → LoadedOne i m b number a down tops rest left bytes (set tops i (m - 1)) (set rest i (m - 1 - b)) (set left i u) (set bytes i v)
-loaded_one i m b number a down tops rest left bytes u v e f =
-    record { tops_is = refl; rest_is = refl; left_is = ap (λ x. set left i x) e; bytes_is = ap (λ x. set bytes i x) f }
 
 to_go_by : (top a : ℕ) (down : Bool) → a ≤ top → ToGo top a down (cond down a (top - a))
 to_go_by top a true h = omega arith
@@ -527,16 +481,4 @@ module _
           from_one = λ i h. (number_ok i h).0;
           within = λ i h. (number_ok i h).1;
           less = left_fits ok.now ok.unloads;
-        }
-
-    pub counter_fits : CounterFits (count + 1) tops rest w₀.producer.counter
-    counter_fits =
-        let f = ok.few in
-        let n = ok.counted in
-        record {
-          tops_long = ok.wide.tops_long;
-          rest_long = ok.wide.rest_long;
-          counter_long = a.counter;
-          most = omega arith;
-          less = λ i h. let c = ok.unloads.stands.ahead.counts i (omega arith) in omega arith;
         }

@@ -1,11 +1,9 @@
 -- What picking up hands back at a word that passes its checks. Assumes nothing.
 use Prim.Native.Nat.{ℕ, ◌-◌, ◌≤◌, ◌<◌}
-use native.Mathlib.Decide.{dec_lt}
 use native.Mathlib.Omega.{arith}
 use mathlib.Core.Path.{◌≡◌, sym, ap, ap₂, subst, ◌∙◌}
 use mathlib.Core.Bool.{true, false, cond, not}
 use mathlib.Core.List.{List}
-use borrow.Author.Tests.{lt-ltb, le-ltb}
 use lib.Dec.{ltb}
 use lib.ListN.{length, take, replicate, length-reverse}
 use Rattle.gray_theory.specs.Answers.{given, refusing}
@@ -29,14 +27,6 @@ use Rattle.ahead_theory.proofs.PickedUp.{downs_from_start_lem}
 use Rattle.ahead.specs.Pickups.{RankedWord, unfilled_with, Unfilled, filled_ahead}
 use Rattle.ahead.proofs.Openings.{few_digits}
 use Rattle.ahead.proofs.Stands.{zero-filled}
-
--- the fewer of two
-fewer_most : (a b : ℕ) → cond (ltb a b) a b ≤ b
-fewer_most a b =
-    elim (dec_lt a b) [
-      | yes h ↦ rw (lt-ltb a b h) (omega arith)
-      | no h ↦ rw (le-ltb a b (omega arith)) (omega arith)
-    ]
 
 -- a survey, its N, a word of it, its rank, and the arrays that the code makes of them
 pub record Resumable (l word : List ℕ) (c total r : ℕ) (radices : List ℕ) (moving : MovingDigits) (notches : List ℕ) : Type 0 where
@@ -81,9 +71,6 @@ module _
 
     pub rank_within : r ≤ total
     rank_within = let below = rank_small in let whole = p.whole in omega arith
-
-    pub small_entries : (entries : ℕ) → entries ≡ cond (ltb (total - r) c) (total - r) c → entries < 256
-    small_entries entries e = let most = fewer_most (total - r) c in let small = p.opens.capacity in omega arith
 
     module _ (stood : Walk) (s : stood ≡ unfilled_with radices (length l) moving c notches r) where
       pub resume_unfilled : (entries : ℕ) → entries ≡ cond (ltb (total - r) c) (total - r) c → Unfilled stood entries

@@ -4,14 +4,14 @@ use native.Mathlib.Nat.{div-one, mod-one, add-zero}
 use native.Mathlib.Numerals.{add-one}
 use native.Mathlib.Decide.{ℕ_discrete}
 use native.Mathlib.Omega.{arith}
-use mathlib.Core.Path.{◌≡◌, refl, sym, ap, ap₂, subst, ◌∙◌}
+use mathlib.Core.Path.{◌≡◌, refl, sym, ap, ap₂, ◌∙◌}
 use mathlib.Core.Bool.{Bool, true, false, cond, not, ◌&&◌, and-eq-true_iff, not-not}
 use mathlib.Core.List.{List, [], ◌∷◌, ◌++◌, append-nil}
-use borrow.Author.Tests.{ltb-true, le-leb, lt-leb, eq-eqb, ne_eqb}
+use borrow.Author.Tests.{ltb-true, eq-eqb, ne_eqb}
 use lib.Arith.{digits_div, digits_mod}
 use lib.Dec.{leb, ltb, eqb}
-use lib.ListN.{length, get_or, take, drop, set, replicate, length-append, drop_of_length-le}
-use lib.Seq.{length-take-le, drop-cons, append_snoc}
+use lib.ListN.{length, get_or, drop, set, replicate, length-append, drop_of_length-le}
+use lib.Seq.{drop-cons, append_snoc}
 use Rattle.gray_theory.specs.Radices.{mixed_digits}
 use Rattle.gray_theory.specs.Words.{even, is_word, reflect, rank}
 use Rattle.gray_theory.proofs.Digits.{is_word-length}
@@ -19,29 +19,12 @@ use Rattle.gray_theory.proofs.Ranks.{reflect_below}
 use Rattle.gray_theory.proofs.Increments.{even-suc}
 use Rattle.gray_theory.specs.Arrays.{filled}
 use Rattle.gray_theory.proofs.Filled.{filled-append, length-filled}
-use Rattle.gray_theory.specs.Locks.{MovingDigits, unlocked}
+use Rattle.gray_theory.specs.Locks.{unlocked}
 use Rattle.gray_theory.proofs.Unlocked.{Lock, Lock.free, Lock.locked, lock}
 use Rattle.gray_theory.specs.Indexed.{downs_at}
-use Rattle.ahead.specs.Pickups.{RankedWord, Standable, Stood, unfilled_with}
+use Rattle.ahead.specs.Pickups.{Standable, Stood}
 
--- ---- the direction of one digit, by the rank of the slower ones and its own digit of the rank
-pub locked_up : (m : ℕ) (down : Bool) → m < 2 → false ≡ leb 2 m && down
-locked_up m down h = sym (rw (lt-leb 2 m h))
-
-pub at_last : (m p b : ℕ) → 2 ≤ m → b ≡ m - 1 → even p ≡ leb 2 m && cond (eqb (b + 1) m) (even p) (not (even p))
-at_last m p b two e = sym (rw (le-leb 2 m two, eq-eqb (b + 1) m (omega arith)))
-
-pub before_last : (m p b : ℕ) → 2 ≤ m → (b ≡ m - 1 → ⊥) → eqb (p % 2) 1 ≡ leb 2 m && cond (eqb (b + 1) m) (even p) (not (even p))
-before_last m p b two e = odd ∙ sym (rw (le-leb 2 m two, ne_eqb (b + 1) m (λ last. e (omega arith))))
-  where
-    odd : eqb (p % 2) 1 ≡ not (even p)
-    odd =
-        elim (ℕ_discrete (p % 2) 0) [
-          | yes z ↦ rw (eq-eqb (p % 2) 0 z) (ne_eqb (p % 2) 1 (λ o. omega arith))
-          | no z ↦ rw (ne_eqb (p % 2) 0 z) (eq-eqb (p % 2) 1 (omega arith))
-        ]
-
--- it is that of the walk from the start
+-- ---- the direction of one digit, by the rank of the slower ones and its own digit of the rank: that of the walk from the start
 directed : (m p b : ℕ) → b < m → cond (eqb (b + 1) m) (even p) (not (even p)) ≡ not (even (suc (p * m + b) / m))
 directed m p b h =
     elim (ℕ_discrete (b + 1) m) [
@@ -67,13 +50,6 @@ slower_parity m p a h =
           let double : p * m ≡ 2 * (p / 2 * m) + m = ap (λ n. n * m) half ∙ omega arith in
           rw (ne_eqb (p % 2) 0 z) (omega arith)
     ]
-
--- ---- the place after that of a digit
-pub past_locked : (m place : ℕ) → m < 2 → place ≡ place + cond (leb 2 m) 1 0
-past_locked m place h = sym (ap (λ moves. place + cond moves 1 0) (lt-leb 2 m h) ∙ add-zero place)
-
-pub past_free : (m place : ℕ) → 2 ≤ m → place + 1 ≡ place + cond (leb 2 m) 1 0
-past_free m place h = sym (ap (λ moves. place + cond moves 1 0) (le-leb 2 m h))
 
 -- ---- all of them
 -- i digits are done; the rank of the others, of which p is the parity, gives their digits of the rank and directions
@@ -319,43 +295,3 @@ module _ (radices word : List ℕ) (r : ℕ) where
               s.downs_are
               ∙ ap (filled 48 false) (sym (s.directions ∙ ap (λ l. s.towards ++ downs_at l left) none ∙ append-nil s.towards));
         }
-
--- ---- the state there
-module _ (radices : List ℕ) (n len : ℕ) (wide : len ≡ n) where
-  pub word_stands : (word : List ℕ) (r : ℕ)
-      → length radices ≡ 48
-      → n ≤ 48
-      → RankedWord (take n radices) (take n word) r
-      → Standable (take len radices) (take len word) r (replicate 49 0) (replicate 48 false)
-  word_stands word r room most there =
-      let long = length-take-le len radices (omega arith) in
-      record {
-        most = omega arith;
-        there = subst (λ k. RankedWord (take k radices) (take k word) r) (sym wide) there;
-        no_counts = refl;
-        all_up = refl;
-      }
-
-  pub stands_unfilled : (moving : MovingDigits) (c : ℕ) (word : List ℕ) (r : ℕ) (counter : List ℕ) (downs : List Bool)
-      → Stood (take len radices) r counter downs
-      → record {
-        directed = record { radices = radices; n = n; moving = moving; word = word; downs = downs };
-        producer = record { counter = counter; place = 1; queue = replicate 32 0; queued = 0; steps = 0 };
-        capacity = c;
-        moves = r;
-        ended = false;
-      }
-      ≡ unfilled_with radices n moving c word r
-  stands_unfilled moving c word r counter downs s =
-      let counts : counter ≡ filled 49 0 (mixed_digits (unlocked (take n radices)) r) =
-      s.counts ∙ ap (λ k. filled 49 0 (mixed_digits (unlocked (take k radices)) r)) wide in
-      let directions : downs ≡ filled 48 false (downs_at (take n radices) r) =
-      s.directions ∙ ap (λ k. filled 48 false (downs_at (take k radices) r)) wide in
-      λ i.
-      record {
-        directed = record { radices = radices; n = n; moving = moving; word = word; downs = directions i };
-        producer = record { counter = counts i; place = 1; queue = replicate 32 0; queued = 0; steps = 0 };
-        capacity = c;
-        moves = r;
-        ended = false;
-      }

@@ -6,10 +6,9 @@ use mathlib.Core.Bool.{Bool, true, false, cond, ◌&&◌}
 use mathlib.Core.List.{List, [], ◌∷◌, ◌++◌}
 use borrow.Author.Tests.{lt-ltb, le-ltb, eq-eqb, ne_eqb}
 use lib.Dec.{eqb}
-use lib.ListN.{length, get_or, set, take, drop, length-map, get_or-append}
-use lib.Seq.{length-take-le, get_or-take, get_or_at}
+use lib.ListN.{length, get_or, set, take, drop, length-map}
+use lib.Seq.{length-take-le}
 use Rattle.gray_theory.specs.Answers.{given}
-use Rattle.gray_theory.proofs.Unlocked.{looked_up_at}
 use Rattle.gray_theory.specs.DirectedWords.{DirectedWord}
 use Rattle.gray_theory.specs.Engines.{Event, moved, ended, refused_with}
 use Rattle.digit.specs.Advances.{advanced_from}
@@ -22,7 +21,7 @@ use Rattle.ahead_theory.proofs.InRange.{place_two, producer_says, runs_out, carr
 use Rattle.ahead_theory.proofs.Kept.{goes_faulty, goes_over, goes_dry, goes_removing, removes_last, removes_digit, entry_digit}
 use Rattle.ahead.specs.declared.Progress.{Progress}
 use Rattle.ahead.specs.Structs.{producer_with}
-use Rattle.ahead.specs.Stages.{MovingNumbers, moving_of, Survey, Workable, DigitToMove}
+use Rattle.ahead.specs.Stages.{MovingNumbers, moving_of, Workable, DigitToMove}
 use Rattle.ahead.proofs.Ranges.{ranged_known, moving_count, moving_most, moving_radices_lem, moving-survey}
 
 -- ---- work
@@ -32,31 +31,6 @@ moving_long radices numbers n count ok =
     let many = ok.held in
     let most = ok.most in
     length-map (take count numbers) (λ d. get_or radices (d - 1) 0) ∙ length-take-le count numbers (omega arith)
-
--- the radix at a place of the counter: the last is 2, any other is looked up
-module _ (radices numbers : List ℕ) (n count : ℕ) (ok : Survey radices numbers n count) (place : ℕ) where
-  pub radix_last : place ≡ count + 1 → 2 ≡ get_or (places (moving_of radices numbers count)) (place - 1) 0
-  radix_last last =
-      let long = moving_long radices numbers n count ok.moving in
-      sym (get_or_at (moving_of radices numbers count) 2 [] 0 (place - 1) (omega arith))
-
-  module _ (low : 1 ≤ place) (high : place ≤ count) (number : ℕ) (is : number ≡ get_or numbers (place - 1) 0) where
-    pub number_fits : (1 ≤ number) × (number ≤ 48)
-    number_fits =
-        let first = ok.moving.from_one (place - 1) (omega arith) in
-        let last = ok.moving.last (place - 1) (omega arith) in
-        (omega arith, omega arith)
-
-    pub radix_moving : get_or radices (number - 1) 0 ≡ get_or (places (moving_of radices numbers count)) (place - 1) 0
-    radix_moving =
-        let long = moving_long radices numbers n count ok.moving in
-        let held = ok.moving.held in
-        let most = ok.moving.most in
-        let part = length-take-le count numbers (omega arith) in
-        sym
-        (get_or-append (moving_of radices numbers count) (2 ∷ []) 0 (place - 1) (omega arith)
-        ∙ looked_up_at radices (take count numbers) (place - 1) (omega arith)
-        ∙ ap (λ k. get_or radices (k - 1) 0) (get_or-take count numbers (place - 1) 0 (omega arith) ∙ sym is))
 
 module _
     (radices numbers : List ℕ) (n count c : ℕ) (counter queue : List ℕ) (at : Progress)
