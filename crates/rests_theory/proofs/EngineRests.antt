@@ -7,11 +7,11 @@ use Rattle.gray_theory.specs.Locks.{unlocked}
 use Rattle.gray_theory.specs.Engines.{answer_of}
 use Rattle.ahead_theory.specs.States.{Walk}
 use Rattle.ahead_theory.specs.Calls as ahead
-use Rattle.ahead_theory.specs.Openings as ahead-opens
+use Rattle.ahead_theory.proofs.Openings as ahead-opens
 use Rattle.ahead_theory.proofs.WorkAhead.{fresh_walks_work_ahead}
 use Rattle.towers_theory.specs.States.{Towers}
 use Rattle.towers_theory.specs.Calls as towers
-use Rattle.towers_theory.specs.Openings as towers-opens
+use Rattle.towers_theory.proofs.Openings as towers-opens
 use Rattle.towers_theory.proofs.DisksWalk.{disks-walk_the_list}
 use Rattle.rests_theory.specs.Rests.{Rests}
 use Rattle.rests_theory.proofs.Along.{along}

@@ -21,11 +21,11 @@ use Rattle.gray_theory.specs.RunLaws.{Moved}
 use Rattle.gray_theory.proofs.RunLaws.{moved_none, moved_more, all_made, ends_there, refused_there}
 use Rattle.ahead_theory.specs.States as walks
 use Rattle.ahead_theory.specs.Calls as ahead
-use Rattle.ahead_theory.specs.Openings as ahead-opens
+use Rattle.ahead_theory.proofs.Openings as ahead-opens
 use Rattle.ahead_theory.proofs.WorkAhead.{fresh_walks_work_ahead, fresh_walks_stay_in_range}
 use Rattle.towers_theory.specs.States as games
 use Rattle.towers_theory.specs.Calls as towers
-use Rattle.towers_theory.specs.Openings as towers-opens
+use Rattle.towers_theory.proofs.Openings as towers-opens
 use Rattle.towers_theory.proofs.DisksWalk.{disks-walk_the_list}
 use Rattle.runs_theory.specs.MoveCalls.{opened_run, walk_moves_call, disk_moves_call, list_moves}
 use Rattle.runs_theory.specs.Agree.{writes_first, Halts, Halts.ends, Halts.refuses, StopsAt}

@@ -8,10 +8,8 @@ use Rattle.gray_theory.specs.Engines.{Event, move_at, ended, Handed, after, answ
 use Rattle.gray_theory.specs.RunCalls.{Stop, nothing, end, refusal}
 use Rattle.ahead_theory.specs.States as walks
 use Rattle.ahead_theory.specs.Calls as ahead
-use Rattle.ahead_theory.specs.Openings as ahead-opens
 use Rattle.towers_theory.specs.States as games
 use Rattle.towers_theory.specs.Calls as towers
-use Rattle.towers_theory.specs.Openings as towers-opens
 use Rattle.runs_theory.specs.MoveCalls.{Moves, list_moves}
 
 -- ---- what is written
