@@ -1,5 +1,5 @@
 // The calls for C and Rust: numbers and slices of numbers only, each result one number of 64 bits. Each function is thin: it calls
-// the library and encodes the answer. outside/include/gray.h declares them.
+// the library and encodes the answer. `capi_c` exports them.
 
 #![tactic(auto)]
 
@@ -110,56 +110,49 @@ fn moves_of(running: Running) -> u64
 }
 
 // N.
-#[unsafe(no_mangle)]
-pub extern "C" fn gray_size(radices: &[u8]) -> u64
+pub fn gray_size(radices: &[u8]) -> u64
     ensures { result ≡ encoded (size_call radices.now) }
 {
     of_counted(gray::size(radices))
 }
 
 // The rank of a word (a setting).
-#[unsafe(no_mangle)]
-pub extern "C" fn gray_rank(radices: &[u8], word: &[u8]) -> u64
+pub fn gray_rank(radices: &[u8], word: &[u8]) -> u64
     ensures { result ≡ encoded (rank_call radices.now word.now) }
 {
     of_ranked(gray::rank(radices, word))
 }
 
 // The word of a rank; the bytes written.
-#[unsafe(no_mangle)]
-pub extern "C" fn gray_word(radices: &[u8], rank: u64, out: &mut [u8]) -> u64
+pub fn gray_word(radices: &[u8], rank: u64, out: &mut [u8]) -> u64
     ensures { Sent (word_call radices.now rank) result out.old out.new }
 {
     of_written(gray::word(radices, rank, out))
 }
 
 // A run of words; the bytes written.
-#[unsafe(no_mangle)]
-pub extern "C" fn gray_list(radices: &[u8], from: u64, count: u64, out: &mut [u8]) -> u64
+pub fn gray_list(radices: &[u8], from: u64, count: u64, out: &mut [u8]) -> u64
     ensures { Sent (list_call radices.now from count) result out.old out.new }
 {
     of_written(lister::list(radices, from, count, out))
 }
 
 // The log of the first moves; the bytes written.
-#[unsafe(no_mangle)]
-pub extern "C" fn gray_log_write(radices: &[u8], capacity: usize, moves: u64, out: &mut [u8]) -> u64
+pub fn gray_log_write(radices: &[u8], capacity: usize, moves: u64, out: &mut [u8]) -> u64
     ensures { Sent (write_call radices.now capacity moves) result out.old out.new }
 {
     of_written(movelog::write(radices, capacity, moves, out))
 }
 
 // The number of moves of a log.
-#[unsafe(no_mangle)]
-pub extern "C" fn gray_log_read(log: &[u8]) -> u64
+pub fn gray_log_read(log: &[u8]) -> u64
     ensures { result ≡ encoded (read_call log.now) }
 {
     of_reading(movelog::read(log))
 }
 
 // At most t moves of a fresh walk by the buffered engine: how the run went, and in `made` the moves whose bytes stand.
-#[unsafe(no_mangle)]
-pub extern "C" fn gray_moves(
+pub fn gray_moves(
     radices: &[u8],
     capacity: usize,
     t: u64,
@@ -174,8 +167,7 @@ pub extern "C" fn gray_moves(
 }
 
 // The same of a walk that is picked up at a word (a setting).
-#[unsafe(no_mangle)]
-pub extern "C" fn gray_resume_moves(
+pub fn gray_resume_moves(
     radices: &[u8],
     capacity: usize,
     word: &[u8],
@@ -192,8 +184,7 @@ pub extern "C" fn gray_resume_moves(
 }
 
 // The same of a fresh game by the disk engine.
-#[unsafe(no_mangle)]
-pub extern "C" fn gray_towers(radices: &[u8], t: u64, out: &mut [u8], made: &mut u64) -> u64
+pub fn gray_towers(radices: &[u8], t: u64, out: &mut [u8], made: &mut u64) -> u64
     ensures { Ran (disk_moves_call radices.now t out.old) result out.new made.new }
 {
     let played = runs::disk_moves(radices, t, out);
@@ -202,16 +193,14 @@ pub extern "C" fn gray_towers(radices: &[u8], t: u64, out: &mut [u8], made: &mut
 }
 
 // How many moves fit in each tide window of a harbour file; the number of windows.
-#[unsafe(no_mangle)]
-pub extern "C" fn gray_tide_counts(file: &[u8], counts: &mut [u32]) -> u64
+pub fn gray_tide_counts(file: &[u8], counts: &mut [u32]) -> u64
     ensures { Sent (counts_call file.now) result counts.old counts.new }
 {
     of_counting(tides::counts(file, counts))
 }
 
 // Whether a move may begin at a minute, counted from 2000-01-01 00:00: 1 or 0.
-#[unsafe(no_mangle)]
-pub extern "C" fn gray_tide_may_begin(file: &[u8], minute: u64) -> u64
+pub fn gray_tide_may_begin(file: &[u8], minute: u64) -> u64
     ensures { result ≡ encoded (as_number (may_begin_call file.now minute)) }
 {
     of_beginning(tides::may_begin(file, minute))

@@ -1,3 +1,2 @@
 -- Theorems and laws of the definitions in specs/.
-pub mod Same
 pub mod Table

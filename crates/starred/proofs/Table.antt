@@ -28,10 +28,7 @@ use Rattle.movelog_theory.specs.Logs.{high_first, digit_records, moves_from, log
 use Rattle.movelog_theory.specs.Shapes.{moves_then_end, digits_then_moves, shaped, radices_of, count_moves, same_bytes}
 use Rattle.movelog_theory.specs.Calls.{write_call, read_call, moves_call}
 use Rattle.starred.specs.Same.{numbers}
-use Rattle.starred.specs.Table.{Row, row, table}
-
-abbrev pub Holds : Row → Type 0
-Holds r = r.computed ≡ r.said
+use Rattle.starred.specs.Table.{Row, Holds, row, table}
 
 passes : List Row → Bool
 passes [] = true

@@ -1,6 +1,6 @@
 -- Document 01's starred cases: the table, one test computed over all of it, and the theorem that carries it to each row. Radices
 -- and words are written as there, digit n first.
-use Rattle.std.specs.Prelude.{ℕ, zero, suc, ◌-◌, ◌/◌, ◌^◌, true, false, cond, get_or, take, replicate}
+use Rattle.std.specs.Prelude.{◌≡◌, ℕ, zero, suc, ◌-◌, ◌/◌, ◌^◌, true, false, cond, get_or, take, replicate}
 use mathlib.Core.List.{List, [], ◌∷◌, ◌++◌, map}
 use Rattle.gray_theory.specs.Answers.{Answer, given, refused}
 use Rattle.gray_theory.specs.Radices.{digits, bytes}
@@ -20,8 +20,7 @@ use Rattle.lister_theory.specs.Listers.{listing}
 use Rattle.lister_theory.specs.Calls.{list_call}
 use Rattle.movelog_theory.specs.Logs.{digit_records}
 use Rattle.movelog_theory.specs.Calls.{write_call, read_call, moves_call}
-use Rattle.starred.specs.Same.{Test, numbers, changes, events, units}
-use Rattle.starred.proofs.Same.{lists, answers}
+use Rattle.starred.specs.Same.{Test, numbers, changes, events, units, lists, answers}
 
 -- a row: what the definitions give, and what document 01 says it is
 pub record Row : Type 1 where
@@ -29,6 +28,9 @@ pub record Row : Type 1 where
   pub test : Test Value
   pub computed : Value
   pub said : Value
+
+abbrev pub Holds : Row → Type 0
+Holds r = r.computed ≡ r.said
 
 abbrev pub row : {A : Type 0} → Test A → A → A → Row
 row {A} t a b = record { Value = A; test = t; computed = a; said = b }

@@ -107,9 +107,8 @@ pub fn rank(radices: &[u8], word: &[u8]) -> Ranked
     Ranked::Rank(rank_from(radices, word))
 }
 
-// The same for programs outside that compare it with `gray_rank`, in the same encoding.
-#[unsafe(no_mangle)]
-pub extern "C" fn gray_rank_in_two_passes(radices: &[u8], word: &[u8]) -> u64
+// The same for programs outside that compare it with `gray_rank`, in the same encoding. `two_pass_c` exports it.
+pub fn gray_rank_in_two_passes(radices: &[u8], word: &[u8]) -> u64
     ensures { result ≡ encoded (rank_call radices.now word.now) }
 {
     capi::of_ranked(rank(radices, word))
