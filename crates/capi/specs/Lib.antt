@@ -5,4 +5,5 @@ pub mod Encoding
 -- theorems
 pub mod Told
 pub mod TellsApart
+
 -- laws

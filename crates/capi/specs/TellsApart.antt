@@ -1,7 +1,6 @@
 -- What a call can answer: a value below 2^63, or a refusal by a number from 1 to 255 (it is one of document 01's eleven or of
 -- document 02's two so far). So a caller can tell its answers apart by their codes (`codes_tell_answers_apart`).
-use Rattle.std.specs.Prelude.{ℕ, ◌-◌, ◌^◌, ◌<◌}
-use Rattle.capi.specs.Told.{number}
+use Rattle.std.specs.Prelude.{ℕ, ◌^◌, ◌<◌}
 
 -- the last number of document 01's list of refusals
 abbrev pub last : ℕ

@@ -1,5 +1,5 @@
 -- A caller can tell a value from a refusal, and one answer from another.
-use Rattle.std.specs.Prelude.{ℕ, ◌-◌, ◌^◌, ◌≤◌, ◌<◌}
+use Rattle.std.specs.Prelude.{ℕ, ◌^◌, ◌≤◌, ◌<◌}
 use Rattle.gray_theory.specs.Answers.{Answer, given, refused}
 use Rattle.gray_theory.specs.RunCalls.{nothing, end, refusal, Outcome}
 

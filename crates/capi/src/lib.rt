@@ -152,13 +152,7 @@ pub fn gray_log_read(log: &[u8]) -> u64
 }
 
 // At most t moves of a fresh walk by the buffered engine: how the run went, and in `made` the moves whose bytes stand.
-pub fn gray_moves(
-    radices: &[u8],
-    capacity: usize,
-    t: u64,
-    out: &mut [u8],
-    made: &mut u64,
-) -> u64
+pub fn gray_moves(radices: &[u8], capacity: usize, t: u64, out: &mut [u8], made: &mut u64) -> u64
     ensures { Ran (walk_moves_call radices.now capacity t out.old) result out.new made.new }
 {
     let running = runs::walk_moves(radices, capacity, t, out);
