@@ -1,11 +1,8 @@
 -- `two_pass::all_below` meets its contract: after i turns it has tested the slowest i digits. Assumes nothing.
-use Prim.Native.Nat.{◌≤◌, ◌-◌}
-use mathlib.Core.Path.{◌≡◌, refl}
+use mathlib.Core.Path.{refl}
 use native.Mathlib.Omega.{arith}
-use lib.ListN.{length, take}
-use Rattle.gray_theory.specs.Radices.{digits}
 use Rattle.gray_theory.specs.Words.{is_word}
-use Rattle.gray_theory.proofs.Ranking.{below_more, below_all}
+use Rattle.gray_theory.proofs.Ranking.{below_more}
 use Rattle.two_pass.proofs.all_below.Goals as goal
 
 pub loop-i-init : goal.loop-i-init

@@ -1,6 +1,5 @@
 -- `two_pass::check_word` meets its contract. Assumes nothing.
-use mathlib.Core.Path.{sym, ap, ◌∙◌}
-use borrow.Author.Rules.{rules}
+use mathlib.Core.Path.{sym, ap}
 use Rattle.two_pass.specs.Stages.{checked_as}
 use Rattle.gray_theory.proofs.Ranking.{too_long_or_short}
 use Rattle.two_pass.proofs.check_word.Goals as goal

@@ -9,22 +9,21 @@ use Rattle.gray_theory.proofs.Refusals.{accepted}
 use Rattle.gray.proofs.Passing.{passed_on}
 use Rattle.two_pass.specs.Stages.{Rankable}
 use Rattle.two_pass.proofs.Laws.{fine_says, check_refused}
-use borrow.Author.Rules.{rules}
 use Rattle.two_pass.proofs.rank.Goals as goal
 use Rattle.two_pass.proofs.rank.Goals.{After-check_word-tested, In-Fine}
 
 -- what has been learnt once the radices are accepted, and once the word is
 
 size_is : (c : After-check_word-tested)
-    → 
+    →
     size_call c.args.radices.now ≡ given c.in-Size.field-0
 size_is c = sym c.size-counted.ensures ∙ ap counted_as c.in-Size.is
 
 rankable : (c : In-Fine)
-    → 
+    →
     Rankable c.args.radices.now c.args.word.now
 rankable c =
-    let sized = accepted _ _ (size_is c) in
+    let sized = accepted _ _ (sym c.size-counted.ensures ∙ ap counted_as c.in-Size.is) in
     record {
       one = fine_says _ (sym c.check_word-tested.ensures ∙ c.in-Fine.is);
       least = sized.one;

@@ -1,13 +1,9 @@
 -- `two_pass::rank_from` meets its contract: after i turns p is the rank of the slowest i digits. Assumes nothing.
-use Prim.Native.Nat.{◌≤◌, ◌<◌, ◌-◌, ◌+◌, ◌*◌, ◌^◌}
-use mathlib.Core.Path.{◌≡◌, refl}
-use native.Mathlib.Omega.{arith}
-use borrow.Author.Rules.{rules}
+use Prim.Native.Nat.{◌≤◌, ◌-◌}
+use mathlib.Core.Path.{◌≡◌}
 use lib.ListN.{length, take}
 use Rattle.gray_theory.specs.Radices.{digits}
 use Rattle.gray_theory.specs.Words.{rank}
-use Rattle.gray_theory.proofs.Digits.{is_word_taken, word_long, digit_below}
-use Rattle.gray_theory.proofs.Ranking.{rank_more, rank_small, rank_all}
 use Rattle.two_pass.proofs.rank_from.Given as goal
 
 abbrev pub invariant-loop-i : goal.invariant-loop-i
