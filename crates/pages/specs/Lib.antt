@@ -2,4 +2,5 @@
 
 -- definitions
 pub mod Structs
+
 -- theorems
