@@ -1,4 +1,4 @@
-// Links the proved libraries, which `rt staticlib` makes, and Algorithm H in C, which is compiled here.
+// Links the proved libraries, which bin/collect takes from where rt builds them, and Algorithm H in C, which is compiled here.
 use std::path::Path;
 use std::process::Command;
 

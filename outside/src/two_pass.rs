@@ -1,4 +1,4 @@
-//! The rank of a setting in two passes, of which the first tests it: a proved library of its own (`rt staticlib two_pass`), to
+//! The rank of a setting in two passes, of which the first tests it: a proved library of its own (crate two_pass_c), to
 //! which the one pass of `capi` is held, and against which it is timed. It serves for that alone, so include/gray.h does not
 //! declare it.
 use crate::capi::{answer, Answer};

@@ -7,7 +7,7 @@ use std::path::Path;
 const MILLION: usize = 1_000_000;
 
 pub fn compare(g: &mut Group, chance: &mut Chance) {
-    let (script, program) = (in_repository("bin/walk"), in_repository("target/bin/walk"));
+    let (script, program) = (in_repository("bin/walk"), in_repository("crates/walk/out/walk"));
     // The script comes first: it makes the program where that is missing or old.
     for line in [&b"2 3\n"[..], b"\n", b"2 3", b"17 241\n", b"4 0\n", b"1\n", b"3 1 3\n"] {
         print(g, &script, line);
