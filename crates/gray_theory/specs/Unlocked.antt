@@ -1,5 +1,5 @@
 -- What the digits that move have to do with all digits: the same size, the same changes, the same notches.
-use Rattle.std.specs.Prelude.{ℕ, ◌-◌, List, [], map}
+use Rattle.std.specs.Prelude.{ℕ, ◌-◌, List, map}
 use Rattle.std.proofs.Math.ListN.{get_or}
 
 -- ---- radices looked up by the numbers of their digits

@@ -3,5 +3,6 @@
 
 -- definitions
 pub mod Pages
+
 -- theorems
 -- laws

@@ -2,5 +2,6 @@
 
 -- definitions
 pub mod Rests
+
 -- theorems
 -- laws
