@@ -1,5 +1,4 @@
--- Bounds on the cost of entries: each costs what the ruler function says, entry j less than 2 j in all, and a run of d entries at
--- most 2 d + n − 1.
+-- The cost of entries in its nested form.
 use Rattle.std.specs.Prelude.{ℕ, ◌+◌, ◌-◌, ◌/◌, List, [], ◌∷◌}
 use Rattle.std.proofs.Common.{⊎_elim}
 use Rattle.gray_theory.specs.Costs.{cost}

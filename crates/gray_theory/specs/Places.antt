@@ -1,4 +1,4 @@
--- Bytes at a place of an output, and the laws that writers cite.
+-- Bytes at a place of an output.
 use Rattle.std.specs.Prelude.{ℕ, ◌+◌, ◌-◌, List, [], ◌++◌, length, take, drop}
 
 -- bytes in an output from place `at` on

@@ -1,4 +1,4 @@
--- Runs of calls, one after another: a run is its first calls and a run from where they have come to.
+-- What a run of calls has done after some of them.
 use Prim.Native.Nat.{ℕ, ◌+◌, ◌-◌}
 use Rattle.std.specs.Prelude.{◌≡◌, length}
 use mathlib.Core.List.{List, []}

@@ -1,4 +1,4 @@
--- What the digits that move have to do with all digits: the same size, the same changes, the same notches.
+-- The digits that move, among all digits.
 use Rattle.std.specs.Prelude.{ℕ, ◌-◌, List, [], map}
 use Rattle.std.proofs.Math.ListN.{get_or}
 

@@ -1,4 +1,4 @@
--- What both engines keep: its range part by part, that a move keeps it, and its value at each rank of the walk.
+-- What both engines keep: its range part by part, and its value at each rank of the walk.
 use Prim.Native.Nat.{ℕ, ◌-◌, ◌≤◌}
 use Rattle.std.specs.Prelude.{◌≡◌, true, List, length}
 use Rattle.gray_theory.specs.Answers.{Answer, is_given}
