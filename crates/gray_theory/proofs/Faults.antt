@@ -1,6 +1,6 @@
 -- Radices get the number of the lowest fault that applies to them, and what has no fault is not refused.
 use Rattle.std.specs.Prelude.{◌≡◌, refl, Bool, true, false, List, ℕ}
-use Rattle.gray_theory.specs.Answers.{Answer, refused}
+use Rattle.gray_theory.specs.Answers.{Answer}
 use Rattle.gray_theory.specs.Radices.{wrong_count, wrong_radix, too_many, of_radices}
 use Rattle.gray_theory.specs.Faults.{Fault, Fault.count, Fault.radix, Fault.many, Fault.none, decided}
 

@@ -1,7 +1,5 @@
 -- The cost of entries in its nested form.
-use Rattle.std.specs.Prelude.{ℕ, ◌+◌, ◌-◌, ◌/◌, List, [], ◌∷◌}
-use Rattle.std.proofs.Common.{⊎_elim}
-use Rattle.gray_theory.specs.Costs.{cost}
+use Rattle.std.specs.Prelude.{ℕ, ◌+◌, ◌/◌, List, [], ◌∷◌}
 
 -- ---- the nested form
 -- the cost with one division after another

@@ -1,5 +1,5 @@
 -- Bytes at a place of an output.
-use Rattle.std.specs.Prelude.{ℕ, ◌+◌, ◌-◌, List, [], ◌++◌, length, take, drop}
+use Rattle.std.specs.Prelude.{ℕ, ◌+◌, List, ◌++◌, length, take, drop}
 
 -- bytes in an output from place `at` on
 unfoldable pub placed : ℕ → List ℕ → List ℕ → List ℕ

@@ -1,8 +1,8 @@
 -- What a run of calls has done after some of them.
-use Prim.Native.Nat.{ℕ, ◌+◌, ◌-◌}
+use Prim.Native.Nat.{ℕ, ◌+◌}
 use Rattle.std.specs.Prelude.{◌≡◌, length}
-use mathlib.Core.List.{List, []}
-use Rattle.gray_theory.specs.Engines.{Event, moved, Handed, after}
+use mathlib.Core.List.{List}
+use Rattle.gray_theory.specs.Engines.{Event, Handed, after}
 use Rattle.gray_theory.specs.RunCalls.{run_from, onto}
 
 -- after k calls that all moved, with their bytes: whatever is asked for beyond them is a run from there

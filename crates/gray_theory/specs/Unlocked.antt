@@ -1,5 +1,5 @@
 -- The digits that move, among all digits.
-use Rattle.std.specs.Prelude.{ℕ, ◌-◌, List, [], map}
+use Rattle.std.specs.Prelude.{ℕ, ◌-◌, List, map}
 use Rattle.std.proofs.Math.ListN.{get_or}
 
 -- ---- radices looked up by the numbers of their digits

@@ -1,5 +1,5 @@
 -- What both engines keep: its range part by part, and its value at each rank of the walk.
-use Prim.Native.Nat.{ℕ, ◌-◌, ◌≤◌}
+use Prim.Native.Nat.{ℕ, ◌≤◌}
 use Rattle.std.specs.Prelude.{◌≡◌, true, List, length}
 use Rattle.gray_theory.specs.Answers.{Answer, is_given}
 use Rattle.gray_theory.specs.Arrays.{filled}

@@ -1,14 +1,10 @@
 -- The list's moves that both engines write, and what stops them.
 use Prim.Native.Nat.{ℕ, ◌+◌, ◌-◌, ◌≤◌, ◌<◌}
 use Rattle.std.specs.Prelude.{◌≡◌, cond, ltb, length, drop}
-use mathlib.Core.List.{List, [], ◌++◌}
+use mathlib.Core.List.{List, ◌++◌}
 use Rattle.gray_theory.specs.Answers.{Answer, given, refused}
-use Rattle.gray_theory.specs.Engines.{Event, move_at, ended, Handed, after, answer_of}
+use Rattle.gray_theory.specs.Engines.{Event, move_at, ended, Handed, answer_of}
 use Rattle.gray_theory.specs.RunCalls.{Stop, nothing, end, refusal}
-use Rattle.ahead_theory.specs.States as walks
-use Rattle.ahead_theory.specs.Calls as ahead
-use Rattle.towers_theory.specs.States as games
-use Rattle.towers_theory.specs.Calls as towers
 use Rattle.runs_theory.specs.MoveCalls.{Moves, list_moves}
 
 -- ---- what is written

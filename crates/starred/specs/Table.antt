@@ -3,7 +3,7 @@ use Rattle.std.specs.Prelude.{◌≡◌, ℕ, zero, suc, ◌-◌, ◌/◌, ◌^�
 use mathlib.Core.List.{List, [], ◌∷◌, ◌++◌, map}
 use Rattle.gray_theory.specs.Answers.{Answer, given, refused}
 use Rattle.gray_theory.specs.Radices.{digits, bytes}
-use Rattle.gray_theory.specs.Words.{upward, downward, notches, list, rank}
+use Rattle.gray_theory.specs.Words.{upward, list}
 use Rattle.gray_theory.specs.Changes.{Change, change, ruler}
 use Rattle.gray_theory.specs.Costs.{cost}
 use Rattle.gray_theory.specs.Calls.{size_call, rank_call}
