@@ -67,7 +67,7 @@ def declarations(text):
 
 
 def listed():
-    """The modules that a Lib.antt lists: the crate, the folder (specs or proofs), the module and the comment that it is below."""
+    """The modules that a Lib.antt lists: the crate, the folder (specs or proofs), the module, and the comment above it."""
     for library in sorted(CRATES.glob("*/*/Lib.antt"), key=lambda path: (path.parts[-3], path.parts[-2] != "specs")):
         heading = ""
         for line in library.read_text().splitlines():
@@ -77,9 +77,9 @@ def listed():
 
 
 def headlines():
-    """The headline theorems, by crate, folder and module. Of the modules that a Lib.antt, of specs/ or of proofs/, lists below a
-    comment with "theorems" in it: each public theorem right behind a comment (a heading, `-- ---- ..`, does not count), and each
-    that nothing else names."""
+    """The headline theorems, by crate, folder and module. Of the modules that a Lib.antt, of specs/ or of proofs/, lists below
+    a comment with "theorems" in it: each public theorem right behind a comment (a heading, `-- ---- ..`, does not count), and
+    each that nothing else names."""
     everything = "\n".join(without_comments(path.read_text()) for path in CRATES.rglob("*.antt"))
     cited = {}
     for word in re.findall(r"[^\s(){}\[\],;.]+", IMPORT.sub("", everything)):
