@@ -14,9 +14,9 @@ def without_comments(text, mark="--"):
     return "\n".join(re.sub(rf"(^|\s){mark}.*", r"\1", line) for line in text.splitlines())
 
 
-def specs():
-    """The files of the crates' specs/, by crate and module."""
-    return {(path.parts[-3], path.stem): path for path in sorted(CRATES.glob("*/specs/*.antt")) if path.stem != "Lib"}
+def modules(folder):
+    """The files of the crates' specs/ or proofs/ that a Lib.antt can list, by crate and module."""
+    return {(path.parts[-3], path.stem): path for path in sorted(CRATES.glob(f"*/{folder}/[A-Z]*.antt")) if path.stem != "Lib"}
 
 
 class Declared:
@@ -66,20 +66,27 @@ def declarations(text):
     return found
 
 
+def listed():
+    """The modules that a Lib.antt lists: the crate, the folder (specs or proofs), the module, and the comment above it."""
+    for library in sorted(CRATES.glob("*/*/Lib.antt"), key=lambda path: (path.parts[-3], path.parts[-2] != "specs")):
+        heading = ""
+        for line in library.read_text().splitlines():
+            heading = line if line.startswith("--") else heading
+            if line.startswith("pub mod "):
+                yield library.parts[-3], library.parts[-2], line.split()[-1], heading
+
+
 def headlines():
-    """The headline theorems, by crate and module. Of the modules that a Lib.antt lists below a comment with "theorems" in it:
-    each public theorem right behind a comment (a heading, `-- ---- ..`, does not count), and each that nothing else names."""
+    """The headline theorems, by crate, folder and module. Of the modules that a Lib.antt, of specs/ or of proofs/, lists below
+    a comment with "theorems" in it: each public theorem right behind a comment (a heading, `-- ---- ..`, does not count), and
+    each that nothing else names."""
     everything = "\n".join(without_comments(path.read_text()) for path in CRATES.rglob("*.antt"))
     cited = {}
     for word in re.findall(r"[^\s(){}\[\],;.]+", IMPORT.sub("", everything)):
         cited[word] = cited.get(word, 0) + 1
-    for library in sorted(CRATES.glob("*/specs/Lib.antt")):
-        below = False
-        for line in library.read_text().splitlines():
-            below = "theorems" in line if line.startswith("--") else below
-            if below and line.startswith("pub mod "):
-                module = line.split()[-1]
-                for one in declarations((library.parent / f"{module}.antt").read_text()):
-                    own = len(re.findall(rf"^ *(?:pub )?{re.escape(one.name)}(?=\s)", one.text, re.MULTILINE))
-                    if one.kind == "theorem" and one.public and (one.commented or cited[one.name] == own):
-                        yield library.parts[-3], module, one
+    for crate, folder, module, heading in listed():
+        if "theorems" in heading:
+            for one in declarations((CRATES / crate / folder / f"{module}.antt").read_text()):
+                own = len(re.findall(rf"^ *(?:pub )?{re.escape(one.name)}(?=\s)", one.text, re.MULTILINE))
+                if one.kind == "theorem" and one.public and (one.commented or cited[one.name] == own):
+                    yield crate, folder, module, one

@@ -39,7 +39,7 @@ use Rattle.stretch.specs.declared.Stage.{Stage}
 use Rattle.stretch.specs.declared.Stretch.{Stretch}
 use Rattle.stretch.specs.Stages.{Stretched, stretch_as, ran_into, calls_by, from_oldest, fits_for, stretch_by}
 use Rattle.ahead.specs.Stretches as calls
-use Rattle.ahead.specs.Stretches.{Wide, Loaded, fast_from, Unloads, Unloadable, Unloaded, Part, Callable, CallsHalted, Calls, Room, outcome_of, stop_by}
+use Rattle.ahead.specs.Stretches.{Wide, Loaded, fast_from, Unloads, Unloadable, Part, Callable, CallsHalted, Calls, Room, outcome_of, stop_by}
 use Rattle.ahead.proofs.Ranges.{not_open}
 use Rattle.ahead.proofs.Steps.{already_over}
 

@@ -1,5 +1,5 @@
 -- The states of a run: each follows from how many entries are removed, t, how many are queued, k, and how many carries are made
--- towards the next, p. What a work step, a removal and a call do with them.
+-- towards the next, p.
 use Prim.Native.Nat.{ℕ, zero, suc, ◌+◌}
 use Rattle.std.specs.Prelude.{Bool, List, [], ◌∷◌, ◌++◌}
 use Rattle.gray_theory.specs.Radices.{mixed_digits}

@@ -1,4 +1,4 @@
--- The counter of the producer: the mixed-radix digits of the entries finished, with the places cleared by carries.
+-- The counter of the producer, with the places cleared by carries.
 use Rattle.std.specs.Prelude.{ℕ, drop, replicate}
 use mathlib.Core.List.{List, ◌++◌}
 

@@ -1,5 +1,5 @@
--- Computed examples: one walk picked up in mid-list, with every field of its state; and made-up states, which hold the range
--- rule and the rules of a call to document 01 where the theorems about whole walks do not reach. Lists have digit 1 first.
+-- Made-up states, which hold the range rule and the rules of a call to document 01 where the theorems about whole walks do not
+-- reach. Lists have digit 1 first.
 use Rattle.std.specs.Prelude.{ℕ, ◌≡◌, Bool, true, false, List, [], ◌∷◌, ◌++◌, map}
 use Rattle.gray_theory.specs.Answers.{given}
 use Rattle.gray_theory.specs.Arrays.{filled}

@@ -1,5 +1,4 @@
--- Filling ahead from a rank: work steps until the queue is full or holds the end entry reach it within their bound, and what the
--- buffer then holds follows from the rank.
+-- How far filling ahead from a rank goes.
 use Prim.Native.Nat.{ℕ, ◌+◌, ◌-◌, ◌≤◌}
 use Rattle.std.specs.Prelude.{◌≡◌, List, ltb}
 use Rattle.std.proofs.Math.Bool.{cond}

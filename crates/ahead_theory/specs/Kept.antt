@@ -1,5 +1,4 @@
--- The range rule is kept by every accepted call but one that moves from j = N − 1, whose next call gets 7; so does every call on a
--- closed walk. A call that moves names the notch it reaches.
+-- Of an entry and its digit, for the theorems about what calls keep.
 use Rattle.std.specs.Prelude.{ℕ, ◌-◌, ◌≤◌, get_or}
 use Rattle.ahead_theory.specs.States.{Walk}
 

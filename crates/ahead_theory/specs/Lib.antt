@@ -1,4 +1,4 @@
--- The buffered engine. Read the definitions first, then the demand: the theorems say that the definitions keep it.
+-- The buffered engine. Read the definitions first, then the demand: the theorems, in proofs/, say that the definitions keep it.
 
 -- definitions
 pub mod States
@@ -6,18 +6,19 @@ pub mod Work
 pub mod Calls
 pub mod Events
 pub mod Pickups
--- what is promised of whole runs, and the theorems
+-- what is promised of whole runs
 pub mod Demand
 pub mod GoingOn
+-- what theorems are stated with
 pub mod Examples
 pub mod Kept
--- the run: its numbers and their invariants, the states that follow from them, one call, the events, the phases, the clauses
+-- what they are proved with: the numbers of a run, the states that follow from them, one call
 pub mod Positions
 pub mod Canonical
 pub mod Rounds
--- laws
+-- what laws are stated with
 pub mod Counters
 pub mod Filling
--- a run of moves on local arrays: its model, what it leaves undone, and that it is the engine's
+-- a run of moves on local arrays: its model, and what it leaves undone
 pub mod Locals
 pub mod Stretches

@@ -1,6 +1,4 @@
--- The producer and the consumer in numbers: t entries removed, k queued, p carries made towards the next. Two invariants carry
--- demand 3: with enough places the useful steps keep ahead of every entry that is still to come, and at any capacity they are
--- not far ahead of the last.
+-- The producer and the consumer in numbers: t entries removed, k queued, p carries made towards the next.
 use Rattle.std.specs.Prelude.{ℕ, suc, ◌+◌, ◌*◌, ◌<◌, ◌≡◌, List}
 use Rattle.gray_theory.specs.Radices.{size}
 use Rattle.gray_theory.specs.Changes.{ruler}

@@ -1,4 +1,4 @@
--- What two work steps of a call on local arrays do, how the carries of a dry call are undone, and what every call keeps.
+-- How the carries of a dry call on local arrays are undone.
 use Rattle.std.specs.Prelude.{ℕ, ◌+◌, ◌-◌, ◌≤◌, ◌≡◌, cond, List, ltb, set}
 use Rattle.ahead_theory.specs.Locals.{Fast}
 

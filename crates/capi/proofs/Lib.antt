@@ -1,6 +1,10 @@
--- Laws that the proofs of several functions cite.
-pub mod Writers
-pub mod Checked
-pub mod RunsTellApart
-pub mod TellsApart
+-- That a caller can tell answers apart, and laws.
+
+-- theorems
 pub mod Told
+pub mod TellsApart
+pub mod RunsTellApart
+-- laws
+pub mod Checked
+-- laws that the proofs of several functions cite
+pub mod Writers

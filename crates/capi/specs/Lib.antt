@@ -2,8 +2,6 @@
 
 -- definitions
 pub mod Encoding
--- theorems
+-- what theorems are stated with
 pub mod Told
 pub mod TellsApart
-
--- laws

@@ -1,5 +1,4 @@
--- What a call can answer: a value below 2^63, or a refusal by a number from 1 to 255 (it is one of document 01's eleven or of
--- document 02's two so far). So a caller can tell its answers apart by their codes (`codes_tell_answers_apart`).
+-- Bounds on what a call can answer: the last numbers of refusals, and lengths below 2^63.
 use Rattle.std.specs.Prelude.{ℕ, ◌^◌, ◌<◌}
 
 -- the last number of document 01's list of refusals

@@ -1,4 +1,4 @@
--- A caller can tell a value from a refusal, and one answer from another.
+-- What a call can answer, and what a run of moves can say.
 use Rattle.std.specs.Prelude.{ℕ, ◌^◌, ◌≤◌, ◌<◌}
 use Rattle.gray_theory.specs.Answers.{Answer, given, refused}
 use Rattle.gray_theory.specs.RunCalls.{nothing, end, refusal, Outcome}

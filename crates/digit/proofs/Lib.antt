@@ -1,4 +1,5 @@
 -- Laws that the proofs of several functions cite.
 pub mod Laws
-pub mod DirectedMoves
+-- laws of what needs this crate's types
 pub mod Advances
+pub mod DirectedMoves

@@ -3,6 +3,5 @@
 
 -- definitions
 pub mod Enums
--- laws
 -- what private functions answer
 pub mod Stages

@@ -1,4 +1,4 @@
--- What no test can give, and what a failed test or `||` says.
+-- A test that cannot be true is false, and what a failed `||` says.
 use Rattle.std.specs.Prelude.{◌≡◌, refl, Bool, true, false, ◌||◌}
 use Rattle.gray_theory.specs.Bools.{impossible}
 

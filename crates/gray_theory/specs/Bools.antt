@@ -1,4 +1,4 @@
--- What no test can give, and what a failed test or `||` says.
+-- What no test can give.
 use Rattle.std.specs.Prelude.{ℕ, ◌≡◌}
 use Rattle.std.proofs.Common.{arith}
 

@@ -1,4 +1,4 @@
--- Radices get the number of the lowest fault that applies to them, and what has no fault is not refused.
+-- What is wrong with radices, if anything, and an answer after that.
 use Rattle.std.specs.Prelude.{◌≡◌, true, false, List, ℕ}
 use Rattle.gray_theory.specs.Answers.{Answer, refused}
 use Rattle.gray_theory.specs.Radices.{wrong_count, wrong_radix, too_many}

@@ -1,5 +1,5 @@
--- The reflected mixed-radix Gray code. Read the definitions first: they transcribe document 01. The theorems say what the
--- definitions have to do with each other, and the laws are what proofs cite.
+-- The reflected mixed-radix Gray code. Read the definitions first: they transcribe document 01. The theorems and the laws about
+-- them are in proofs/.
 
 -- definitions
 pub mod Answers
@@ -18,12 +18,12 @@ pub mod Engines
 pub mod RunCalls
 -- forms that theorems tie to those
 pub mod Indexed
--- theorems
+-- what theorems are stated with
 pub mod Bounds
 pub mod Faults
 pub mod Unlocked
 pub mod SingleCalls
--- laws
+-- what laws are stated with
 pub mod Bools
 pub mod Places
 pub mod WalkArrays

@@ -1,5 +1,4 @@
--- A run of moves is its single calls: the bytes are those of the first k calls, which all move, the state is what the last call handed
--- back, and what stopped the run is what call k + 1 answers.
+-- A run of moves and its single calls: what it has written, the state that it leaves, and what stopped it.
 use Prim.Native.Nat.{ℕ, ◌<◌}
 use Rattle.std.specs.Prelude.{◌≡◌, length, get_or}
 use Rattle.gray_theory.specs.Answers.{given, refused}

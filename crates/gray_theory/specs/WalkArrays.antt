@@ -1,4 +1,4 @@
--- The word and the directions of the walk at rank r, in the arrays of an engine's state: at the start, in range, and moved.
+-- The word and the directions of the walk at rank r, in the arrays of an engine's state.
 use Rattle.std.specs.Prelude.{ℕ, Bool, false, List}
 use Rattle.gray_theory.specs.Arrays.{filled}
 use Rattle.gray_theory.specs.Indexed.{word_at, downs_at}

@@ -1,8 +1,11 @@
--- Theorems and laws of the definitions in specs/.
-pub mod Accepted
-pub mod Examples
-pub mod Lengths
-pub mod Parsing
-pub mod RoundTrips
-pub mod Sames
+-- The log: which bytes are accepted, and that what is written is read back.
+
+-- theorems
 pub mod ShapedExactly
+pub mod Accepted
+pub mod RoundTrips
+pub mod Examples
+-- laws
+pub mod Lengths
+pub mod Sames
+pub mod Parsing

@@ -1,10 +1,8 @@
--- The log. Read the definitions first; ShapedExactly, Accepted and RoundTrips have the theorems.
+-- The log. Read the definitions first; ShapedExactly, Accepted and RoundTrips, in proofs/, have the theorems.
 
 -- definitions
 pub mod Logs
 pub mod Shapes
 pub mod Calls
--- theorems
+-- what theorems are stated with
 pub mod ShapedExactly
-
--- laws

@@ -1,5 +1,5 @@
--- The test for the shape of a log passes exactly the bytes that are made of records: a start, as many digit records as it says
--- numbered from 1, then moves, then at most one end as the last record (document 01, refusal 1).
+-- Bytes that are made of records: a start, as many digit records as it says numbered from 1, then moves, then at most one end
+-- as the last record (document 01, refusal 1).
 use Rattle.std.specs.Prelude.{ℕ, ◌≡◌, List, [], ◌∷◌, ◌++◌, length}
 use Rattle.movelog_theory.specs.Logs.{start_record, move_record_of, end_record_of, digit_records}
 

@@ -1,3 +1,6 @@
--- Laws that the proofs of several functions cite.
-pub mod Fillings
+-- What the pages of `walk` hold as a whole, and laws.
+
+-- theorems
 pub mod Whole
+-- laws that the proofs of several functions cite
+pub mod Fillings

@@ -2,5 +2,3 @@
 
 -- definitions
 pub mod Structs
-
--- theorems

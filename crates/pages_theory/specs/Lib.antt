@@ -3,6 +3,3 @@
 
 -- definitions
 pub mod Pages
-
--- theorems
--- laws

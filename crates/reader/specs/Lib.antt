@@ -3,6 +3,5 @@
 -- definitions
 pub mod Parsing
 pub mod Readers
--- theorems
 -- what private functions answer
 pub mod Stages

@@ -1,6 +1,9 @@
--- Theorems and laws of the definitions in specs/.
-pub mod Along
+-- How long a sluice rests, of the list and of the calls of both engines.
+
+-- theorems
+pub mod RunRests
 pub mod EngineRests
+-- laws
+pub mod Along
 pub mod Multiples
 pub mod Products
-pub mod RunRests

@@ -2,6 +2,3 @@
 
 -- definitions
 pub mod Rests
-
--- theorems
--- laws

@@ -1,3 +1,5 @@
--- Theorems and laws of the definitions in specs/.
-pub mod Resumed
+-- That both engines write the same moves, and go on from where they were stopped.
+
+-- theorems
 pub mod Agree
+pub mod Resumed

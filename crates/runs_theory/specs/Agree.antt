@@ -1,5 +1,4 @@
--- What both engines write is held to the list, and so to each other: two controllers, one on each, send their motors the same
--- moves.
+-- The list's moves that both engines write, and what stops them.
 use Prim.Native.Nat.{ℕ, ◌+◌, ◌-◌, ◌≤◌, ◌<◌}
 use Rattle.std.specs.Prelude.{◌≡◌, cond, ltb, length, drop}
 use mathlib.Core.List.{List, ◌++◌}

@@ -2,5 +2,5 @@
 
 -- definitions
 pub mod MoveCalls
--- theorems
+-- what theorems are stated with
 pub mod Agree

@@ -1,2 +1,2 @@
--- Theorems and laws of the definitions in specs/.
+-- Document 01's starred cases, proved of the list and the calls' definitions in a single go.
 pub mod Table

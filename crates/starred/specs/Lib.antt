@@ -1,3 +1,3 @@
--- Document 01's starred cases, proved of the list and the calls' definitions in a single go.
+-- Document 01's starred cases as one table, and tests for the equations in its rows.
 pub mod Same
 pub mod Table

@@ -1,5 +1,4 @@
--- Document 01's starred cases: the table, one test computed over all of it, and the theorem that carries it to each row. Radices
--- and words are written as there, digit n first.
+-- Document 01's starred cases as a table. Radices and words are written as there, digit n first.
 use Rattle.std.specs.Prelude.{◌≡◌, ℕ, zero, suc, ◌-◌, ◌/◌, ◌^◌, true, false, cond, get_or, take, replicate}
 use mathlib.Core.List.{List, [], ◌∷◌, ◌++◌, map}
 use Rattle.gray_theory.specs.Answers.{Answer, given, refused}

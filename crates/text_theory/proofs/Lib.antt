@@ -1,6 +1,9 @@
--- Theorems and laws of the definitions in specs/.
-pub mod Examples
-pub mod Fits
-pub mod Kept
+-- That numbers are read back as they are written, what a line fits in, and examples.
+
+-- theorems
 pub mod Numerals
+pub mod Kept
+pub mod Examples
 pub mod Output
+-- laws
+pub mod Fits

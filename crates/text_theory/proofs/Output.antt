@@ -1,5 +1,4 @@
--- All that the program `walk` prints for an input (document 01), and document 01's example in full. Its moves are the list's: that the
--- buffered engine makes just these is `fresh_walks_work_ahead` of `ahead_theory`.
+-- Document 01's example of what the program `walk` prints, in full.
 use Rattle.std.specs.Prelude.{◌≡◌, refl}
 use Rattle.gray_theory.specs.Words.{list, upward, downward, notches, through}
 use Rattle.gray_theory.specs.Changes.{difference}

@@ -6,6 +6,3 @@ pub mod Decimals
 pub mod Surveys
 pub mod Lines
 pub mod Output
-
--- theorems
--- laws

@@ -1,5 +1,5 @@
--- All that the program `walk` prints for an input (document 01), and document 01's example in full. Its moves are the list's: that the
--- buffered engine makes just these is `fresh_walks_work_ahead` of `ahead_theory`.
+-- All that the program `walk` prints for an input (document 01). Its moves are the list's: that the buffered engine makes just
+-- these is `fresh_walks_work_ahead` of `ahead_theory`.
 use Rattle.std.specs.Prelude.{ℕ, zero, suc, ◌-◌, cond, List, [], ◌++◌}
 use Rattle.gray_theory.specs.Answers.{Answer, given, refused}
 use Rattle.gray_theory.specs.Radices.{digits}

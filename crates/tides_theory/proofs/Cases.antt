@@ -1,5 +1,4 @@
--- Cases of document 02's request 1 as one table, one equation computed over all of it, and the theorem that carries it to each
--- row.
+-- Cases of document 02's request 1: one equation computed over the table of them, and the theorem that carries it to each row.
 use Rattle.std.specs.Prelude.{ℕ, zero, suc, ◌<◌, ◌≡◌, refl, List, [], ◌∷◌, map, length, get_or}
 use Rattle.std.proofs.Common.{arith}
 use Rattle.text_theory.specs.Decimals.{value_from}

@@ -1,12 +1,15 @@
--- Theorems and laws of the definitions in specs/.
-pub mod Accepting
-pub mod Agree
-pub mod Apart
-pub mod Chunks
+-- What the definitions of tide windows come to: days, lines, windows, moves, and the two calls.
+
+-- theorems
 pub mod Days
 pub mod Exact
-pub mod Few
-pub mod FieldDigits
+pub mod Apart
 pub mod MostMoves
-pub mod QuickDays
+pub mod Agree
 pub mod Cases
+-- laws
+pub mod FieldDigits
+pub mod Chunks
+pub mod QuickDays
+pub mod Accepting
+pub mod Few

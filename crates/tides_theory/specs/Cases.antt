@@ -1,5 +1,4 @@
--- Cases of document 02's request 1 as one table, one equation computed over all of it, and the theorem that carries it to each
--- row.
+-- Cases of document 02's request 1 as one table.
 use Rattle.std.specs.Prelude.{ℕ, ◌≡◌, Bool, true, false, List, [], ◌∷◌, ◌++◌, map}
 use Rattle.gray_theory.specs.Answers.{Answer, given, refused}
 use Rattle.text_theory.specs.Ascii.{ascii}

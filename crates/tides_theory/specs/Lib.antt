@@ -6,7 +6,5 @@ pub mod Lines
 pub mod Windows
 pub mod Fitting
 pub mod Calls
--- theorems
+-- what theorems are stated with
 pub mod Cases
-
--- laws

@@ -1,5 +1,5 @@
--- Computed examples: made-up states, which hold the range rule and the rules of a call to document 01 where the theorem about
--- whole games does not reach; and refusals in their order. Lists have digit 1 first.
+-- Made-up states, which hold the range rule and the rules of a call to document 01 where the theorem about whole games does not
+-- reach. Lists have digit 1 first.
 use Rattle.std.specs.Prelude.{ℕ, ◌≡◌, Bool, true, false, List, [], ◌∷◌, map}
 use Rattle.std.proofs.Math.Option.{none, some}
 use Rattle.gray_theory.specs.Answers.{given}

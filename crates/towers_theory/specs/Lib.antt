@@ -1,13 +1,11 @@
--- The disk engine. Read the definitions first, then the game: the theorem in DisksWalk says that the definitions play it along
--- the list.
+-- The disk engine. Read the definitions first, then the game: the theorem in DisksWalk, in proofs/, says that the definitions
+-- play it along the list.
 
 -- definitions
 pub mod States
 pub mod Choices
 pub mod Calls
--- what is promised of whole runs, and the theorems
+-- what is promised of whole runs
 pub mod Game
+-- what theorems are stated with
 pub mod Examples
-
--- the run: why smaller disks are aside, for three pegs and for a ring, the states of each rank, the disk chosen, one call
--- laws

@@ -2,7 +2,6 @@
 -- nothing.
 use Rattle.lister.proofs.Rows.{row-begun, row_again, row_ended}
 use Rattle.lister.proofs.row.Goals as goal
-use Rattle.lister.proofs.row.Goals.{In-loop-u}
 
 pub loop-u-init : goal.loop-u-init
 loop-u-init c = row-begun _ _ _ _ _ _ _ _ _ _ _ c.requires c.min-end.ensures

@@ -7,7 +7,7 @@ use lib.ListN.{get_or}
 use Rattle.towers_theory.specs.Choices.{side_peg, on_pair}
 use Rattle.towers.proofs.Games.{found_here, found_none}
 use Rattle.towers.proofs.first_on_pair.Goals as goal
-use Rattle.towers.proofs.first_on_pair.Goals.{Start, After-index_at-at, After-on_pair}
+use Rattle.towers.proofs.first_on_pair.Goals.{Start, After-on_pair}
 
 -- what the test of a disk has found
 abbrev onThePair : Start → ℕ → Bool

@@ -8,7 +8,6 @@ use Rattle.gray_theory.proofs.DigitRanges.{tested_none, tested_more}
 use Rattle.gray_theory.specs.Unlocked.{looked_up}
 use Rattle.gray_theory.proofs.Unlocked.{looked_up_at}
 use Rattle.ahead.proofs.range.moving_below.Goals as goal
-use Rattle.ahead.proofs.range.moving_below.Goals.{After-wide-d}
 
 pub loop-i-init : goal.loop-i-init
 loop-i-init c = (omega arith, tested_none _)

@@ -8,7 +8,7 @@ use Rattle.tides.specs.Stages.{Right}
 use Rattle.tides.proofs.line.Dates.{first_right}
 use Rattle.tides.proofs.Courses.{begun, again, Said, said, unsaid, no_lines, unread_at, disorder, passed}
 use Rattle.tides.proofs.calls.pass.Goals as goal
-use Rattle.tides.proofs.calls.pass.Goals.{In-Tide, In-loop-at}
+use Rattle.tides.proofs.calls.pass.Goals.{In-Tide}
 
 -- what the line said
 told : (c : In-Tide)
