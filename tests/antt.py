@@ -10,6 +10,11 @@ TYPE = re.compile(r"( *)(pub )?(record|data) (\S+)")
 TERM = re.compile(r"( *)((?:abbrev |unfoldable )?)(pub )?(?!use |module |where)([^\s(){}:=]+) :(?= |$)")
 
 
+def sources(kind):
+    """The files of one kind in the crates, without what rt has made (out/)."""
+    return sorted(path for path in CRATES.rglob(kind) if "out" not in path.relative_to(CRATES).parts)
+
+
 def without_comments(text, mark="--"):
     return "\n".join(re.sub(rf"(^|\s){mark}.*", r"\1", line) for line in text.splitlines())
 
@@ -80,7 +85,7 @@ def headlines():
     """The headline theorems, by crate, folder and module. Of the modules that a Lib.antt, of specs/ or of proofs/, lists below
     a comment with "theorems" in it: each public theorem right behind a comment (a heading, `-- ---- ..`, does not count), and
     each that nothing else names."""
-    everything = "\n".join(without_comments(path.read_text()) for path in CRATES.rglob("*.antt"))
+    everything = "\n".join(without_comments(path.read_text()) for path in sources("*.antt"))
     cited = {}
     for word in re.findall(r"[^\s(){}\[\],;.]+", IMPORT.sub("", everything)):
         cited[word] = cited.get(word, 0) + 1
