@@ -1,4 +1,4 @@
--- No byte before the one that is looked at is `b`.
+-- `lines::find` meets its contract: no byte before the one that is looked at is `b`. Assumes nothing.
 use Rattle.std.proofs.Common.{ℕ, ◌≢◌, ◌≤◌, ◌<◌, slice_index}
 use Rattle.lines.proofs.find.Given as goal
 

@@ -1,4 +1,4 @@
--- Each turn takes a line, or what is left.
+-- `lines::run` meets its contract: each turn takes a line, or what is left. Assumes nothing.
 use Rattle.std.proofs.Common.{◌-◌, ◌≤◌, length}
 use Rattle.lines.proofs.run.Given as goal
 
