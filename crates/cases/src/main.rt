@@ -33,11 +33,10 @@
 
 #![tactic(auto)]
 
-ghost use Rattle.std.specs.Prelude.{◌≡◌, ◌≤◌, length};
+ghost use Rattle.std.specs.Prelude.{ℕ, ◌≡◌, ◌≢◌, ◌≤◌, ◌<◌, slice_index, length};
 ghost use Rattle.io.specs.Counts.{IsPrefixLen};
 
 use ahead::{Producer, Progress, Walk};
-use bytes::scan::find;
 use digit::MovingDigits;
 use gray::{Counted, Opening, Ranked, Running, Stepping, Written};
 use movelog::Reading;
@@ -298,6 +297,21 @@ fn print_running(answer: Running) {
         }
         Running::Refused(x) => print_refused(x),
     }
+}
+
+// The index of the first byte `b` from `from` on and below `to`, or `to` where there is none.
+fn find(text: &[u8], from: usize, to: usize, b: u8) -> usize
+    requires { (from ≤ to) × (to ≤ length text.now) }
+    ensures within { (from ≤ result) × (result ≤ to) }
+    ensures before { (k : ℕ) → from ≤ k → k < result → slice_index text.now k ≢ b }
+    ensures found { result < to → slice_index text.now result ≡ b }
+{
+    for i in from..to {
+        if text[i] == b {
+            return i;
+        }
+    }
+    to
 }
 
 // Where a name or a number that begins at a place ends: at a space, a comma or the end.

@@ -3,10 +3,9 @@
 
 #![tactic(auto)]
 
-ghost use Rattle.std.specs.Prelude.{min, ◌≡◌, length};
+ghost use Rattle.std.specs.Prelude.{min, ℕ, ◌≡◌, ◌≢◌, ◌≤◌, ◌<◌, slice_index, length};
 ghost use Rattle.io.specs.Counts.{IsPrefixLen};
 
-use bytes::scan::find;
 use gray::{DIGITS, Written};
 use reader::{Found, Reader};
 use text_theory::Line;
@@ -81,6 +80,21 @@ fn print_answer(line: &[u8], shown: &[u8]) {
         print(b"\" and no newline: ");
     }
     print_line(first_line(read_line(line)));
+}
+
+// The index of the first byte `b` from `from` on and below `to`, or `to` where there is none.
+fn find(text: &[u8], from: usize, to: usize, b: u8) -> usize
+    requires { (from ≤ to) × (to ≤ length text.now) }
+    ensures within { (from ≤ result) × (result ≤ to) }
+    ensures before { (k : ℕ) → from ≤ k → k < result → slice_index text.now k ≢ b }
+    ensures found { result < to → slice_index text.now result ≡ b }
+{
+    for i in from..to {
+        if text[i] == b {
+            return i;
+        }
+    }
+    to
 }
 
 fn run(text: &[u8]) {

@@ -6,6 +6,8 @@
 
 use pages::Printing;
 use reader::{Found, Reader};
+use std::io;
+use std::io::{Read, Write};
 
 // The reader after a part of the input, and whether there may be more to read.
 #[derive(Clone, Copy)]
@@ -15,56 +17,57 @@ struct Progress {
 }
 
 // One read, of what there is: a line that is typed is answered at its newline.
-fn read_part(reader: Reader) -> Progress {
-    let mut bytes = io::buffer();
-    let got = libc::read(0, &mut bytes);
-    let n = io::count(got, &bytes);
+fn read_part(input: &mut impl Read, reader: Reader) -> io::Result<Progress> {
+    let mut bytes = [0; 4096];
+    let n = input.read(&mut bytes)?;
     let next = reader.read(&bytes[..n]);
     let found = next.found();
     let Found::More = found else {
-        return Progress {
+        return Ok(Progress {
             reader: next,
             more: false,
-        };
+        });
     };
-    Progress {
+    Ok(Progress {
         reader: next,
         more: 0 < n,
-    }
+    })
 }
 
 // The input up to the newline, to a byte that makes it no line of counts, or to its end. Nothing says that an input ends, so
 // the number of parts is bounded.
-fn read_line() -> Reader {
+fn read_line(input: &mut impl Read) -> io::Result<Reader> {
     let mut reader = Reader::fresh();
     let mut parts = u64::MAX;
     while 0 < parts {
-        let progress = read_part(reader);
+        let progress = read_part(input, reader)?;
         reader = progress.reader;
         if !progress.more {
-            return reader;
+            return Ok(reader);
         }
         parts -= 1;
     }
-    reader
+    Ok(reader)
 }
 
 // Page after page, up to the last one: `written` of pages_theory. There are 4,098 at the most.
-fn write_pages(begun: Printing, page: &mut [u8]) {
+fn write_pages(out: &mut impl Write, begun: Printing, page: &mut [u8]) -> io::Result<()> {
     let mut printing = begun;
     let mut pages = u64::MAX;
     while 0 < pages {
         let filled = printing.fill(page);
-        io::write_all(1, &page[..filled.used]);
+        out.write_all(&page[..filled.used])?;
         if filled.last {
-            return;
+            return Ok(());
         }
         printing = filled.rest;
         pages -= 1;
     }
+    Ok(())
 }
 
-fn main() {
+fn main(rt: HostRuntime) -> io::Result<()> {
     let mut page = [0; 4096];
-    write_pages(Printing::of_reader(read_line()), &mut page);
+    let reader = read_line(&mut rt.reader())?;
+    write_pages(&mut io::writer(&rt), Printing::of_reader(reader), &mut page)
 }
