@@ -6,7 +6,7 @@ from pathlib import Path
 ROOT = Path(__file__).resolve().parent.parent
 CRATES = ROOT / "crates"
 IMPORT = re.compile(r"^[ \t]*(ghost )?use\s+([^{};\n]+?)\s*(?:\{([^}]*)\})?;?[ \t]*$", re.MULTILINE)
-TYPE = re.compile(r"( *)(pub )?(record|data) (\S+)")
+TYPE = re.compile(r"( *)(pub )?(record|data) ([^\s{]+)")
 TERM = re.compile(r"( *)((?:abbrev |unfoldable )?)(pub )?(?!use |module |where)([^\s(){}:=]+) :(?= |$)")
 
 
