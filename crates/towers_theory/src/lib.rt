@@ -1,3 +1,3 @@
-// The theory of the disk engine: definitions and theorems, in specs/, of which the crate `towers` is the code.
+// The theory of the disk engine: definitions, in specs/, of which the crate `towers` is the code, and theorems, in proofs/.
 
 #![tactic(auto)]
