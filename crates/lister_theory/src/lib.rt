@@ -1,3 +1,3 @@
-// No code: specs/ holds what the writer of settings, crate `lister`, writes, with the theorems about it.
+// No code: specs/ holds what the writer of settings, crate `lister`, writes, and proofs/ the theorems about it.
 
 #![tactic(auto)]

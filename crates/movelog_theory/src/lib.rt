@@ -1,3 +1,4 @@
-// No code: specs/ holds what a log is and what the calls of crate `movelog` answer, with the theorems about it.
+// No code: specs/ holds what a log is and what the calls of crate `movelog` answer, and proofs/ the theorems
+// about it.
 
 #![tactic(auto)]

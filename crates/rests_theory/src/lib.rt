@@ -1,3 +1,3 @@
-// No code: how long a sluice rests between its moves, and the theorems about it, in specs/.
+// No code: how long a sluice rests between its moves, in specs/, and the theorems about it, in proofs/.
 
 #![tactic(auto)]

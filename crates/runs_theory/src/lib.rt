@@ -1,3 +1,3 @@
-// No code: what the runs of both engines write, and the theorems about it, in specs/.
+// No code: what the runs of both engines write, in specs/, and the theorems about it, in proofs/.
 
 #![tactic(auto)]

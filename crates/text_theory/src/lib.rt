@@ -1,5 +1,5 @@
-// No code: specs/ holds what the program `walk` reads and writes, as definitions on lists of bytes, with their theorems, and here
-// stands the type of a line that it writes. The code is in `reader` and `text`.
+// No code: specs/ holds what the program `walk` reads and writes, as definitions on lists of bytes, and proofs/ the theorems on
+// them; here stands the type of a line that it writes. The code is in `reader` and `text`.
 
 #![tactic(auto)]
 

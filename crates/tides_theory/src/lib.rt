@@ -1,3 +1,3 @@
-// Definitions and theorems only: see specs/.
+// Definitions and theorems only: see specs/ and proofs/.
 
 #![tactic(auto)]
