@@ -217,7 +217,7 @@ year_more : (k days year f h q a b c : ℕ)
 year_more k days year f h q a b c past sum = omega arith
 
 -- The days of the first k years: 365 each, and one more for every fourth year, but for every hundredth, and yet for every
--- four_hundredth. 2000 is the first of each of these.
+-- four-hundredth. 2000 is the first of each of these.
 pub leap_years_are_counted : (k : ℕ) → days_of_years k + (k + 99) / 100 ≡ 365 * k + (k + 3) / 4 + (k + 399) / 400
 unfolding days_of_years days_in_year
 leap_years_are_counted zero = refl

@@ -1,7 +1,7 @@
 -- The Gregorian calendar, and the minutes counted from 2000-01-01 00:00 (document 02, request 1).
 use Rattle.std.specs.Prelude.{ℕ, zero, suc, ◌+◌, ◌-◌, ◌*◌, ◌%◌, Bool, cond, ◌&&◌, ◌||◌, not, eqb, leb, ltb}
 
--- every fourth year is a leap year, but not every hundredth, and yet every four_hundredth
+-- every fourth year is a leap year, but not every hundredth, and yet every four-hundredth
 abbrev pub is_leap : ℕ → Bool
 is_leap year = eqb (year % 400) 0 || eqb (year % 4) 0 && not (eqb (year % 100) 0)
 
