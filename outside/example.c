@@ -1,5 +1,5 @@
 /* The calls from C: the moves of the survey 2 3, a refusal, and the same moves with a stop in the middle. From the repository's
- * root, once `rt staticlib capi` has made the library:
+ * root, once outside/build has made the library:
  *     cc -I outside/include -o target/example outside/example.c target/staticlib/libcapi.a && target/example */
 #include "gray.h"
 #include <inttypes.h>

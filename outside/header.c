@@ -2,7 +2,7 @@
  * that is cut to 32 bits, without a word; so the numbers of a call all differ (but for the length of a setting, which has to be
  * n), some are over 2^32, and what the calls answer and leave in the lent memory is compared with header.out, which is worked
  * out from documents 01 and 02. The numbers go through variables, so that -Wconversion tells of a parameter that is too narrow.
- * tests/header tells whether a call is left out. From the repository's root, once `rt staticlib capi` has made the library:
+ * tests/header tells whether a call is left out. From the repository's root, once outside/build has made the library:
  *     cc -Wall -Wextra -Wconversion -Werror -I outside/include -o target/header outside/header.c target/staticlib/libcapi.a
  *     target/header | cmp - outside/header.out */
 #include "gray.h"

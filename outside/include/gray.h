@@ -1,4 +1,4 @@
-/* The calls of the proved library for C and for Rust (target/staticlib/libcapi.a, made by `rt staticlib capi`).
+/* The calls of the proved library for C and for Rust (target/staticlib/libcapi.a, made by outside/build).
  *
  * A survey is n notch counts (radices), sluice n first; so are the notches of a setting. Each call returns a value, or minus
  * the number of the refusal (document 01, "Turned down, in checking order", and document 02). No call has a precondition but
