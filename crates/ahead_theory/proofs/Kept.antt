@@ -51,7 +51,7 @@ module _ (w : Walk) where
     removes_digit e = ap (step_by w) removes ∙ rw (ne_eqb (get_or (twice w).queue 0 0) (w.directed.moving.count + 1) e)
 
 -- how a call on a state in range goes: it hands the state back, or it removes an entry, which ends the walk or moves a digit
-data CallGoes (w : Walk) : Type 0 where
+pub data CallGoes (w : Walk) : Type 0 where
   stays : (step_of w).state ≡ w → CallGoes w
   ends : w.ended ≡ false → 0 < (twice w).queued → step_of w ≡ end_of w (dequeued (twice w)) → CallGoes w
   moves : (k : ℕ)
@@ -183,8 +183,8 @@ past_the_end w h = go (in_range w) refl
     go true e = let s = range_says w e in absurd (omega arith)
     go false e = ap (step_by w) (goes_faulty w e)
 
--- a call that moves adds one move and keeps the survey
-one_move : (w : Walk) (c : Change) (notch : ℕ) (o : Course)
+-- ---- a call that moves adds one move and keeps the survey
+pub one_move : (w : Walk) (c : Change) (notch : ℕ) (o : Course)
     → (step_by w o).answer ≡ given (moved c notch)
     → ((step_by w o).state.moves ≡ w.moves + 1) × (survey (step_by w o).state ≡ survey w)
 unfolding end_of move_of digit_moved
@@ -228,18 +228,6 @@ moves_name_their_notch w a c notch says = go (in_range w) refl
     go : (b : Bool) → in_range w ≡ b → NamesNotch c notch (setting w) (setting (step_of w).state)
     go true ranged = by ranged (call_goes w a ranged)
     go false out = let over = ap (λ o. (step_by w o).answer) (goes_faulty w out) in impossible (cc)
-
--- a state that moves at j = N − 1 comes out with j = N, and its next call gets 7
-pub last_move_then_7 : (w : Walk) (c : Change) (notch : ℕ)
-    → w.moves + 1 ≡ size (survey w)
-    → (step_of w).answer ≡ given (moved c notch)
-    → ((step_of w).state.moves ≡ size (survey w)) × (step_of (step_of w).state ≡ refused_with 7 (step_of w).state)
-unfolding step_of
-last_move_then_7 w c notch last e =
-    let (more, same) = one_move w c notch (course w) e in
-    let now = more ∙ last in
-    let most : size (survey (step_of w).state) ≤ (step_of w).state.moves = rw (same, now) (omega arith) in
-    (now, past_the_end (step_of w).state most)
 
 -- ---- runs of moves
 -- a call that is refused is so by 7 or 10, and hands the state back as it came

@@ -6,6 +6,7 @@ pub mod PickedUp
 pub mod Examples
 pub mod Openings
 pub mod Kept
+pub mod PastTheEnd
 -- the run: its numbers and their invariants, the states that follow from them, one call, the events, the phases, the clauses
 pub mod Positions
 pub mod Canonical

@@ -4,6 +4,7 @@
 pub mod Told
 pub mod TellsApart
 pub mod RunsTellApart
+pub mod FreshRuns
 -- laws
 pub mod Checked
 -- laws that the proofs of several functions cite

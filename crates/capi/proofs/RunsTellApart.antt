@@ -1,33 +1,26 @@
 -- What a run can say, of a walk from the start, of one that is picked up, or by the disk engine: all moves made, the end, dry,
 -- or refused by a number below 10. So a caller can tell how a run went by its code and the number of its moves
 -- (`codes_tell_runs_apart`).
-use Rattle.std.specs.Prelude.{ℕ, ◌≡◌, refl, Bool, true, not, List, length}
+use Rattle.std.specs.Prelude.{ℕ, ◌≡◌, refl, Bool, true, List, length}
 use Rattle.std.proofs.Math.Decide.{dec_lt}
 use Rattle.std.proofs.Common.{arith, sym, subst, ap, ◌∙◌}
 use Rattle.std.proofs.Math.Option.{Option, none, some}
 use Rattle.gray_theory.specs.Answers.{Answer, given, refused}
-use Rattle.gray_theory.specs.Radices.{digits}
-use Rattle.gray_theory.specs.Words.{is_word}
 use Rattle.gray_theory.specs.Bools.{impossible}
 use Rattle.gray_theory.specs.Engines.{Event, Handed, after}
-use Rattle.gray_theory.proofs.Openings.{opening_answers_its_check}
 use Rattle.gray_theory.specs.RunCalls.{Stop, nothing, end, refusal, Running, run_with}
 use Rattle.gray_theory.specs.SingleCalls.{Stops, Stops.all, Stops.ends, Stops.refuses}
 use Rattle.gray_theory.proofs.SingleCalls.{run_is_single_calls}
 use Rattle.gray_theory.proofs.SingleCalls.{run_in_range_is_made, run_into_shorter_memory_is_refused}
 use Rattle.ahead_theory.specs.States as walks
 use Rattle.ahead_theory.specs.Calls as ahead
-use Rattle.ahead_theory.specs.Pickups as pickups
 use Rattle.ahead_theory.proofs.Clauses.{only_dry}
-use Rattle.ahead_theory.proofs.WorkAhead.{fresh_walks_stay_in_range}
-use Rattle.ahead_theory.proofs.PickedUp.{picked_up_walks_keep_to_the_list}
 use Rattle.towers_theory.specs.States as games
 use Rattle.towers_theory.specs.Calls as towers
 use Rattle.towers_theory.specs.Choices.{chosen}
-use Rattle.towers_theory.proofs.DisksWalk.{disks-walk_the_list}
-use Rattle.runs_theory.specs.MoveCalls.{opened_run, walk_moves_call, resumed_moves_call, disk_moves_call}
+use Rattle.runs_theory.specs.MoveCalls.{opened_run}
 use Rattle.capi.specs.Told.{Tells, over, dry}
-use Rattle.capi.proofs.Checked.{Checked, valued, numbered, after_check, after_radices, after-survey}
+use Rattle.capi.proofs.Checked.{Checked, numbered}
 
 -- ---- any run
 -- what stopped it
@@ -42,7 +35,7 @@ module _ {S : Type 0} (in_range : S → Bool) (call : S → Handed S Event) (s :
   made_tells made left stop (ends z h a is) = stop_tells made stop end z over
   made_tells made left stop (refuses x z h a is) = stop_tells made stop (refusal 10) (z ∙ ap refusal (only made x a)) dry
 
-  run_tells : Tells (run_with in_range call s t out).answer
+  pub run_tells : Tells (run_with in_range call s t out).answer
   run_tells =
       elim (dec_lt (length out) t) [
         | yes short ↦ rw (run_into_shorter_memory_is_refused in_range call s t out ranged short) (Tells.number {k = 9} (omega arith) (omega arith))
@@ -52,10 +45,10 @@ module _ {S : Type 0} (in_range : S → Bool) (call : S → Handed S Event) (s :
       ]
 
 -- after an opening, which is refused by a number below 10, if it is
-abbrev Any : Unit {0} → Type 0
+abbrev pub Any : Unit {0} → Type 0
 Any u = Unit {0}
 
-opened_run_tells : {S : Type 0} (opening check : Answer Unit) (run : Running S) (out : List ℕ)
+pub opened_run_tells : {S : Type 0} (opening check : Answer Unit) (run : Running S) (out : List ℕ)
     → opening ≡ check
     → Checked 9 Any check
     → (opening ≡ given tt → Tells run.answer)
@@ -66,51 +59,17 @@ opened_run_tells (refused k) (refused l) run out same (numbered one nine) tells 
     let same_number : k ≡ l = cc in Tells.number {k = k} (omega arith) (omega arith)
 
 -- ---- the buffered engine
--- a walk whose states are all in range is refused by 10 alone, so it tells how a run of it went
-walk_tells : (w : walks.Walk) → ((j : ℕ) → walks.in_range (after ahead.step_of w j) ≡ true) → (t : ℕ) (out : List ℕ) → Tells (ahead.run_of w t out).answer
+-- ---- a walk whose states are all in range is refused by 10 alone, so it tells how a run of it went
+pub walk_tells : (w : walks.Walk) → ((j : ℕ) → walks.in_range (after ahead.step_of w j) ≡ true) → (t : ℕ) (out : List ℕ) → Tells (ahead.run_of w t out).answer
 unfolding after
 walk_tells w ranged t out = run_tells walks.in_range ahead.step_of w (ranged 0) (λ j x. only_dry (after ahead.step_of w j) (ranged j) x) t out
 
--- A walk from the start.
-pub walk-run_tells : (radices : List ℕ) (c t : ℕ) (out : List ℕ) → Tells (walk_moves_call radices c t out).answer
-unfolding walk_moves_call ahead.open_of
-walk-run_tells radices c t out =
-    let ms = digits radices in
-    opened_run_tells _ (walks.open_check c ms) _ out
-    (opening_answers_its_check _ _ (walks.open_check c ms))
-    (after-survey 9 Any ms c (given tt) (omega arith) (λ o. valued tt))
-    (λ accepted. walk_tells _ (fresh_walks_stay_in_range ahead.closed_walk radices c accepted).stays_in_range t out)
-
--- One that is picked up at a setting.
-pub resumed_run_tells : (radices : List ℕ) (c : ℕ) (word : List ℕ) (t : ℕ) (out : List ℕ) → Tells (resumed_moves_call radices c word t out).answer
-unfolding resumed_moves_call pickups.resume_of
-resumed_run_tells radices c word t out =
-    let ms = digits radices in
-    opened_run_tells _ (pickups.resume_check ms c (digits word)) _ out
-    (opening_answers_its_check _ _ (pickups.resume_check ms c (digits word)))
-    (after-survey 9 Any ms c _ (omega arith) (λ o.
-    after_check 9 Any 8 (not (is_word ms (digits word))) (given tt) (omega arith) (omega arith) (λ e. valued tt)))
-    (λ accepted. walk_tells _ (picked_up_walks_keep_to_the_list ahead.closed_walk radices c word accepted).stays_in_range t out)
-
 -- ---- the disk engine
--- a call on a state in range is not refused
-never_refused : (s : games.Towers) → games.in_range s ≡ true → (x : ℕ) → (towers.step_of s).answer ≡ refused x → x ≡ 10
+-- ---- a call on a state in range is not refused
+pub never_refused : (s : games.Towers) → games.in_range s ≡ true → (x : ℕ) → (towers.step_of s).answer ≡ refused x → x ≡ 10
 unfolding towers.step_of towers.move_of
 never_refused s ranged x e = by (chosen s) (rw ranged at e)
   where
     by : (choice : Option ℕ) → (towers.move_by s choice).answer ≡ refused x → x ≡ 10
     by none f = impossible (cc)
     by (some i) f = impossible (cc)
-
--- A game from the start.
-pub disk_run_tells : (radices : List ℕ) (t : ℕ) (out : List ℕ) → Tells (disk_moves_call radices t out).answer
-unfolding disk_moves_call towers.open_of after
-disk_run_tells radices t out =
-    let ms = digits radices in
-    opened_run_tells _ (games.open_check ms) _ out
-    (opening_answers_its_check _ _ (games.open_check ms))
-    (after_radices 9 Any ms _ (omega arith) (λ l.
-    after_check 9 Any 6 (games.wrong_counts ms) (given tt) (omega arith) (omega arith) (λ e. valued tt)))
-    (λ accepted.
-    let ranged = (disks-walk_the_list towers.closed_towers radices accepted).stays_in_range in
-    run_tells games.in_range towers.step_of _ (ranged 0) (λ j x. never_refused _ (ranged j) x) t out)

@@ -2,5 +2,6 @@
 
 -- theorems
 pub mod Whole
+pub mod Buffer
 -- laws that the proofs of several functions cite
 pub mod Fillings

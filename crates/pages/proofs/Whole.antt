@@ -1,7 +1,6 @@
 -- What `walk` prints, from the bytes that it reads to the bytes that it writes.
 use Rattle.std.specs.Prelude.{ℕ, ◌≤◌, ◌≡◌, refl, List, [], length, take}
 use Rattle.std.proofs.Common.{arith, sym, ap, ◌∙◌, take_all}
-use Rattle.std.proofs.lemmas.List.{length-replicate}
 use Rattle.gray_theory.specs.Answers.{Answer, given, refused}
 use Rattle.gray_theory.specs.Calls.{size_call}
 use Rattle.gray_theory.proofs.Refusals.{accepted}
@@ -11,9 +10,9 @@ use Rattle.text_theory.specs.Output.{survey_text, input_text, output}
 use Rattle.text_theory.proofs.Kept.{kept_counts_answer_alike}
 use Rattle.reader.specs.Readers.{fresh_reader, read, reader_input, up_to49}
 use Rattle.reader.proofs.Reading.{reader_reads_the_line}
-use Rattle.pages_theory.specs.Pages.{begun, HoldsLines, buffer, written}
+use Rattle.pages_theory.specs.Pages.{begun, HoldsLines, written}
 use Rattle.pages_theory.proofs.WalkLines.{first_line_lem}
-use Rattle.pages_theory.proofs.Printed.{pages_are_the_output, wide_pages_hold_every_line}
+use Rattle.pages_theory.proofs.Printed.{pages_are_the_output}
 
 -- ---- more counts than are kept change no text
 kept_with : (cs : List ℕ) (a : Answer ℕ) → size_call cs ≡ a → input_text (counts (take 49 cs)) ≡ input_text (counts cs)
@@ -42,11 +41,3 @@ walk_prints_the_output input turns page holds many =
     pages_are_the_output (reader_input (read fresh_reader input)) turns page holds (omega arith)
     ∙ ap input_text (reader_reads_the_line input)
     ∙ kept_text (input_as input)
-
--- The buffer of document 01, 4,096 zero bytes, holds every line.
-pub through_the_buffer : (input : List ℕ) (turns : ℕ) → 4098 ≤ turns
-    → written turns (begun (reader_input (read fresh_reader input))) buffer ≡ output input
-through_the_buffer input turns many =
-    walk_prints_the_output input turns buffer
-    (wide_pages_hold_every_line (reader_input (read fresh_reader input)) (length buffer) (simp length-replicate (omega arith)))
-    (omega arith)

@@ -2,6 +2,8 @@
 
 -- theorems
 pub mod RunRests
+pub mod WhenMoves
+pub mod ProductBelow
 pub mod EngineRests
 -- laws
 pub mod Along

@@ -2,10 +2,10 @@
 -- many. What the engines have to do with it stands in EngineRests.
 use Prim.Native.Nat.{ℕ, zero, suc, ◌+◌, ◌-◌, ◌*◌, ◌/◌, ◌%◌, ◌≤◌, ◌<◌}
 use Rattle.std.proofs.Math.Nat.{div-div-eq-div-mul, div-eq_of_lt, div_self, mul-pos, zero-div}
-use Rattle.std.proofs.Common.{mod-eq_of_lt, mul-one, one-mul, zero-mul, sym, ap₂, ◌∙◌, take-suc}
-use Rattle.std.proofs.Math.Decide.{dec_lt, ℕ_discrete}
+use Rattle.std.proofs.Common.{mod-eq_of_lt, one-mul, zero-mul, sym, ap₂, ◌∙◌}
+use Rattle.std.proofs.Math.Decide.{dec_lt}
 use native.Mathlib.Omega.{arith}
-use Rattle.std.specs.Prelude.{◌≡◌, refl, ◌↔◌, Bool, true, false, ◌&&◌, List, [], ◌∷◌, eqb, length, take}
+use Rattle.std.specs.Prelude.{◌≡◌, refl, ◌↔◌, Bool, true, false, ◌&&◌, List, eqb, take}
 use Rattle.std.proofs.Math.Path.{ap}
 use Rattle.std.proofs.Math.Bool.{cond, not}
 use borrow.Author.Tests.{eq-eqb, ne_eqb, eqb-true}
@@ -13,67 +13,20 @@ use Rattle.gray_theory.specs.Answers.{given}
 use Rattle.gray_theory.specs.Radices.{size, all_from}
 use Rattle.gray_theory.specs.Locks.{moving}
 use Rattle.gray_theory.specs.Words.{even, member, notch_of, reflect}
-use Rattle.gray_theory.specs.Changes.{Change, change, ruler, descends}
+use Rattle.gray_theory.specs.Changes.{Change, change, descends}
 use Rattle.gray_theory.proofs.Members.{member_is_word_at}
-use Rattle.gray_theory.proofs.Rulers.{change_is_ruler, ruler-divides}
 use Rattle.gray_theory.proofs.FirstMoves.{every_digit_moves, locked_digits_never_move}
 use Rattle.gray_theory.specs.Engines.{moved, move_at}
 use Rattle.gray_theory.specs.Bools.{impossible}
 use Rattle.gray_theory.proofs.Bools.{never_true}
 use Rattle.gray_theory.proofs.Increments.{even-suc}
-use Rattle.gray_theory.proofs.Sizes.{size-append, size_pos, all_from-take, divides_product}
-use Rattle.gray_theory.proofs.Unlocked.{size-unlocked}
-use Rattle.rests_theory.specs.Rests.{count_of, P, Q, Moving, Locked, Run, listed, NamesTheList, is_move_of, moves, MovesTo, moves_in, added_up, divides, FirstMove, InSuccession, turns, at_an_end, Apart, Rests}
+use Rattle.gray_theory.proofs.Sizes.{size_pos, all_from-take, divides_product}
+use Rattle.rests_theory.specs.Rests.{count_of, P, Moving, Locked, Run, listed, NamesTheList, is_move_of, moves, MovesTo, moves_in, added_up, divides, FirstMove, InSuccession, turns, at_an_end, Apart, Rests}
 use Rattle.rests_theory.proofs.Along.{listed-moves, listed-ends}
 use Rattle.rests_theory.proofs.Multiples.{Alone, alone, Next, Next.straight, Next.turning, next_multiple, quotient_counts, not_at_an_end, at_an_end_lem, straight_on, turned_round, tested, one_of_two}
 use Rattle.rests_theory.proofs.Products.{digit_of_word, product_divides, together}
-
--- ---- the list
--- Locked sluices change nothing: P is the product of all counts below.
-pub P_is_the_product_below : (ms : List ℕ) (k : ℕ) → all_from 1 ms ≡ true → P ms k ≡ size (take (k - 1) ms)
-P_is_the_product_below ms k e = size-unlocked (take (k - 1) ms) (all_from-take 1 (k - 1) ms e)
-
--- Q is the product up to sluice k
-product_to : (ms : List ℕ) (k : ℕ) → all_from 1 ms ≡ true → 1 ≤ k → k ≤ length ms → size (take k ms) ≡ Q ms k
-unfolding size
-product_to ms k e one h =
-    let i : suc (k - 1) ≡ k = omega arith in
-    ap (λ (n : ℕ). size (take n ms)) (sym i)
-    ∙ ap size (take-suc ms (k - 1) 0 (omega arith))
-    ∙ size-append (take (k - 1) ms) (count_of ms k ∷ [])
-    ∙ ap₂ ◌*◌ (sym (P_is_the_product_below ms k e)) (mul-one (count_of ms k))
-
--- change j by the ruler function
-change_is : (ms : List ℕ) (j : ℕ) → 1 ≤ j → j < size ms → change ms j ≡ record { digit = ruler ms j; down = descends ms j }
-change_is ms zero one h = absurd (omega arith)
-change_is ms (suc j) one h = (change_is_ruler ms j h).0
-
--- For j from 1 to N − 1, change j is of sluice k exactly if P divides j and Q does not.
-pub moves_when_P-divides : (ms : List ℕ) (k j : ℕ)
-    → all_from 1 ms ≡ true
-    → Moving ms k
-    → 1 ≤ j
-    → j < size ms
-    → ((change ms j).digit ≡ k) ↔ ((j % P ms k ≡ 0) × (j % Q ms k ≡ 0 → ⊥))
-moves_when_P-divides ms k j e v one h =
-    let first = v.from_1 in
-    let last = v.to_n in
-    let named : (change ms j).digit ≡ ruler ms j = ap (λ (c : Change). c.digit) (change_is ms j one h) in
-    let below = P_is_the_product_below ms k e in
-    let upto = product_to ms k e first last in
-    let (p-there, p_back) = ruler-divides ms e j (k - 1) (omega arith) in
-    let (q-there, q_back) = ruler-divides ms e j k last in (
-      λ same. (
-        ap (λ (n : ℕ). j % n) below ∙ p-there (omega arith),
-        λ z. let more = q_back (ap (λ (n : ℕ). j % n) upto ∙ z) in omega arith,
-      ),
-      λ both.
-          let least = p_back (ap (λ (n : ℕ). j % n) (sym below) ∙ both.0) in
-          elim (ℕ_discrete (ruler ms j) k) [
-            | yes same ↦ named ∙ same
-            | no other ↦ absurd (both.1 (ap (λ (n : ℕ). j % n) (sym upto) ∙ q-there (omega arith)))
-          ],
-    )
+use Rattle.rests_theory.proofs.ProductBelow.{P_is_the_product_below}
+use Rattle.rests_theory.proofs.WhenMoves.{product_to, change_is, moves_when_P-divides}
 
 -- ---- a run along the list
 same_move : (c c' : Change) (a a' : ℕ) → given (moved c a) ≡ given (moved c' a') → (c ≡ c') × (a ≡ a')

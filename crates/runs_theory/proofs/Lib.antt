@@ -2,4 +2,6 @@
 
 -- theorems
 pub mod Agree
+pub mod EnginesAgree
 pub mod Resumed
+pub mod StoppedWalks

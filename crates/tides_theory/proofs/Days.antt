@@ -225,17 +225,9 @@ leap_years_are_counted (suc k) =
     rw (hundredth k _ refl, fourth k _ refl, four_hundredth k _ refl)
     (year_more k _ _ _ _ _ _ _ _ (leap_years_are_counted k) (year_by_tests (2000 + k) _ _ _ refl refl refl))
 
--- four centuries more in this count
-centuries_more : (k days more f h q : ℕ)
+-- ---- four centuries more in this count
+pub centuries_more : (k days more f h q : ℕ)
     → days + h ≡ 365 * k + f + q
     → more + (h + 4) ≡ 365 * (k + 400) + (f + 100) + (q + 1)
     → more ≡ days + 146097
 centuries_more k days more f h q one other = omega arith
-
--- Any four centuries have 146,097 days.
-pub four_centuries_have_146097_days : (k : ℕ) → days_of_years (k + 400) ≡ days_of_years k + 146097
-four_centuries_have_146097_days k =
-    let h : (k + 400 + 99) / 100 ≡ (k + 99) / 100 + 4 = omega arith in
-    let f : (k + 400 + 3) / 4 ≡ (k + 3) / 4 + 100 = omega arith in
-    let q : (k + 400 + 399) / 400 ≡ (k + 399) / 400 + 1 = omega arith in
-    centuries_more k _ _ _ _ _ (leap_years_are_counted k) (rw (h, f, q) at (leap_years_are_counted (k + 400)))

@@ -8,7 +8,7 @@ use Rattle.gray_theory.specs.Bools.{impossible}
 use Rattle.text_theory.specs.Ascii.{ascii}
 use Rattle.text_theory.specs.Decimals.{is_digit, all_digits, value}
 use Rattle.tides_theory.specs.Calendar.{exists, is_leap, has_thirty_days, days_in_month}
-use Rattle.tides_theory.specs.Lines.{high_letter, low_letter, form, fits_place, has_form, is_line, lines_in, all_lines, file_of, all_in_range, ReadAs, FileReadAs, IsFileOf}
+use Rattle.tides_theory.specs.Lines.{high_letter, low_letter, form, fits_place, has_form, is_line, lines_in, all_lines, all_in_range, ReadAs, IsFileOf}
 use Rattle.tides_theory.specs.Lines.{Notice, in_range, notice_in, notices_in, digits_of, line_of}
 use Rattle.tides_theory.proofs.FieldDigits.{glyph_is_digit, digits-read_back, digits-written_back}
 use Rattle.tides_theory.proofs.Chunks.{line_formed, line_length, line_in_front, lines_make_the_file}
@@ -151,27 +151,13 @@ different_lines_say_different_things a b e f same =
     lines_are_their_notices a e ∙ ap line_of same ∙ sym (lines_are_their_notices b f)
 
 -- ---- files
--- a line in front of a file is its first line
-line_then_file : (line file : List ℕ) → is_line line ≡ true → lines_in (line ++ file) ≡ line ∷ lines_in file
+-- ---- a line in front of a file is its first line
+pub line_then_file : (line file : List ℕ) → is_line line ≡ true → lines_in (line ++ file) ≡ line ∷ lines_in file
 line_then_file line file e =
     let long = line_length line e in
     let front = take_at line file 19 long in
     let rest = drop_at line file 19 long in
     line_in_front (line ++ file) (ap is_line front ∙ e) ∙ ap₂ (λ l m. l ∷ lines_in m) front rest
-
--- Notices in range have a file that is read as them.
-pub notices_have_a_file : (ns : List Notice) → all_in_range ns ≡ true → FileReadAs (file_of ns) ns
-unfolding all_in_range lines_in all_lines flatten
-notices_have_a_file [] e = record { read = refl; says = refl }
-notices_have_a_file (n ∷ ns) e =
-    let (first, others) = (and-eq-true_iff (in_range n) (all_in_range ns)).0 e in
-    let line = notices_have_lines n first in
-    let file = notices_have_a_file ns others in
-    let lines = line_then_file (line_of n) (file_of ns) line.read in
-    record {
-      read = ap all_lines lines ∙ ap₂ (λ s t. s && t) line.read file.read;
-      says = ap (map notice_in) lines ∙ ap₂ (λ m ms. m ∷ ms) line.says file.says;
-    }
 
 lines_make_a_file : (lines : List (List ℕ)) → all_lines lines ≡ true → IsFileOf (flatten lines) (map notice_in lines)
 unfolding all_in_range all_lines flatten

@@ -2,7 +2,9 @@
 
 -- theorems
 pub mod Days
+pub mod Centuries
 pub mod Exact
+pub mod NoticeFiles
 pub mod Apart
 pub mod MostMoves
 pub mod Agree
