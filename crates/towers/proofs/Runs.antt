@@ -138,29 +138,25 @@ module _ (m : ℕ) (s : Towers) (p : Playing m s) (t : ℕ) (before : List ℕ) 
         (sym g.made.count)
         g.holds
 
-    pub made_all : (last : Towers)
-        → last ≡ here
-        → t ≤ k
-        → record { state = last; answer = given (record { made = t; stop = nothing }); out = out } ≡ run_of s t before
-    made_all last e h =
+    pub made_all : t ≤ k → record { state = here; answer = given (record { made = t; stop = nothing }); out = out } ≡ run_of s t before
+    made_all h =
         let w = g.within in
         let all : t ≡ k = omega arith in
-        ap (λ (j : ℕ). record { state = last; answer = given (record { made = j; stop = nothing }); out = out }) all
-        ∙ stopped last nothing
+        ap (λ (j : ℕ). record { state = here; answer = given (record { made = j; stop = nothing }); out = out }) all
+        ∙ stopped here nothing
         (all_made step_of s k t g.done g.made (omega arith)
-        ∙ ap (λ (x : Towers). record { state = x; bytes = g.done; stop = nothing }) (g.stands ∙ sym e))
+        ∙ ap (λ (x : Towers). record { state = x; bytes = g.done; stop = nothing }) g.stands)
 
     -- one call more: it ends the walk, or makes a move
-    pub ended_there : (last left : Towers)
-        → last ≡ left
+    pub ended_there : (left : Towers)
         → k < t
         → step_of here ≡ record { state = left; answer = given ended }
-        → record { state = last; answer = given (record { made = k; stop = end }); out = out } ≡ run_of s t before
-    ended_there last left e less ends =
+        → record { state = left; answer = given (record { made = k; stop = end }); out = out } ≡ run_of s t before
+    ended_there left less ends =
         let over = ap step_of g.stands ∙ ends in
-        stopped last end
+        stopped left end
         (ends_there step_of s k t g.done g.made less (ap (λ (c : Handed Towers Event). c.answer) over)
-        ∙ ap (λ (x : Towers). record { state = x; bytes = g.done; stop = end }) (ap (λ (c : Handed Towers Event). c.state) over ∙ sym e))
+        ∙ ap (λ (x : Towers). record { state = x; bytes = g.done; stop = end }) (ap (λ (c : Handed Towers Event). c.state) over))
 
     pub again : (byte : ℕ) (left : Towers)
         → k < t

@@ -47,7 +47,7 @@ fn all_pass<F: Fn(u8) -> bool>(n: u8, bytes: [u8; DIGITS], passes: F) -> bool
     let mut ok = true;
     for byte in bytes {
         number += 1;
-        ok = ok & ((n < number) | passes(byte));
+        ok &= (n < number) | passes(byte);
     }
     ok
 }
@@ -391,13 +391,11 @@ impl Towers {
         downs[at] = to.down;
         pegs[i] = if odd { peg } else { next_peg(m, i, peg) };
         let towers = Towers {
-            radices,
-            n: self.n,
-            moving,
             word,
             turn: next_turn(odd, m, self.turn),
             downs,
             pegs,
+            ..self
         };
         (towers, Ok(Stepping::Moved(k, down, to.digit)))
     }
@@ -441,37 +439,25 @@ impl Towers {
                 &mut pegs,
             );
             let Some((byte, next)) = made else {
-                let towers = self.settled(word, turn, downs, pegs);
+                let towers = Towers {
+                    word,
+                    turn,
+                    downs,
+                    pegs,
+                    ..self
+                };
                 return (towers, Ok(Running::Ended(k as u64)));
             };
             out[k] = byte;
             turn = next;
         }
-        let towers = self.settled(word, turn, downs, pegs);
-        (towers, Ok(Running::Made(t as u64)))
-    }
-
-    // The state after calls: the survey as it came, and what the calls have left of the rest.
-    fn settled(
-        self,
-        word: [u8; DIGITS],
-        turn: u8,
-        downs: [bool; DIGITS],
-        pegs: [u8; DIGITS],
-    ) -> Towers
-        ensures { towers_as result
-            ≡ state_of self.radices self.n self.moving.digits self.moving.count word turn downs pegs }
-    {
-        let radices = self.radices;
-        let moving = self.moving;
-        Towers {
-            radices,
-            n: self.n,
-            moving,
+        let towers = Towers {
             word,
             turn,
             downs,
             pegs,
-        }
+            ..self
+        };
+        (towers, Ok(Running::Made(t as u64)))
     }
 }
