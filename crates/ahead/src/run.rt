@@ -10,7 +10,7 @@ ghost use Rattle.ahead.specs.Stretches.{Loadable, LoadedOne, Wide, Loaded, Count
 
 use super::{Producer, Progress, Walk, to_go};
 use gray::{CAPACITY, Refusal, Running};
-use stretch::{Stage, Stop};
+use stretch::{PLACES, Stage, Stop};
 
 // Calls of a run: the state after them, how many moved, and what stopped them, if anything did.
 #[derive(Clone, Copy)]
@@ -20,60 +20,53 @@ struct Called {
     stop: Option<Stop>,
 }
 
-// The arrays for one digit that moves, at its place among those, and for the place of the counter with that number.
-fn load_digit(
-    i: usize,
-    m: u8,
-    b: u8,
-    number: u8,
-    a: u8,
-    down: bool,
-    tops: &mut [u8],
-    rest: &mut [u8],
-    left: &mut [u8],
-    bytes: &mut [u8],
-)
-    requires { Loadable i m b a × Wide tops.old rest.old left.old bytes.old }
-    ensures { LoadedOne i m b number a down tops.old rest.old left.old bytes.old
-        tops.new rest.new left.new bytes.new }
-{
-    let top = m - 1;
-    tops[i] = top;
-    rest[i] = top - b;
-    left[i] = to_go(top, a, down);
-    bytes[i] = digit::move_byte(number, down);
+// The arrays of a run, by places: the radices less 1, what is left to count, what the digit there has left to go in its
+// direction, and the byte of its next move.
+#[derive(Clone, Copy)]
+struct Lanes {
+    tops: [u8; PLACES],
+    rest: [u8; PLACES],
+    left: [u8; PLACES],
+    bytes: [u8; PLACES],
 }
 
-// The counter, by what is left to count at its places.
-fn counter_back(last: usize, tops: &[u8], rest: &[u8], counter: &mut [u8])
-    requires { CounterFits last tops.now rest.now counter.old }
-    ensures { CounterBack last tops.now rest.now counter.old counter.new }
-{
-    for i in 0..last {
-        counter[i] = tops[i + 1] - rest[i + 1];
+impl Lanes {
+    // One digit that moves, at its place among those, and the place of the counter with that number.
+    fn load_digit(&mut self, i: usize, m: u8, b: u8, number: u8, a: u8, down: bool)
+        requires { Loadable i m b a × Wide self.old.tops self.old.rest self.old.left self.old.bytes }
+        ensures { LoadedOne i m b number a down self.old.tops self.old.rest self.old.left self.old.bytes
+            self.new.tops self.new.rest self.new.left self.new.bytes }
+    {
+        let top = m - 1;
+        self.tops[i] = top;
+        self.rest[i] = top - b;
+        self.left[i] = to_go(top, a, down);
+        self.bytes[i] = digit::move_byte(number, down);
     }
-}
 
-// The word and the directions, by what the digits that move have left to go and by their next moves.
-fn word_back(
-    count: usize,
-    numbers: &[u8],
-    tops: &[u8],
-    left: &[u8],
-    bytes: &[u8],
-    word: &mut [u8],
-    downs: &mut [bool],
-)
-    requires { WordFits count numbers.now tops.now left.now bytes.now word.old downs.old }
-    ensures { WordBack count numbers.now tops.now left.now bytes.now
-        word.old downs.old word.new downs.new }
-{
-    for i in 0..count {
-        let place = i + 1;
-        let down = digit::move_down(bytes[place]);
-        let d = usize::from(numbers[i]) - 1;
-        word[d] = to_go(tops[place], left[place], down);
-        downs[d] = down;
+    // The counter, by what is left to count at its places.
+    fn counter_back(&self, last: usize, counter: &mut [u8])
+        requires { CounterFits last self.now.tops self.now.rest counter.old }
+        ensures { CounterBack last self.now.tops self.now.rest counter.old counter.new }
+    {
+        for i in 0..last {
+            counter[i] = self.tops[i + 1] - self.rest[i + 1];
+        }
+    }
+
+    // The word and the directions, by what the digits that move have left to go and by their next moves.
+    fn word_back(&self, count: usize, numbers: &[u8], word: &mut [u8], downs: &mut [bool])
+        requires { WordFits count numbers.now self.now.tops self.now.left self.now.bytes word.old downs.old }
+        ensures { WordBack count numbers.now self.now.tops self.now.left self.now.bytes
+            word.old downs.old word.new downs.new }
+    {
+        for i in 0..count {
+            let place = i + 1;
+            let down = digit::move_down(self.bytes[place]);
+            let d = usize::from(numbers[i]) - 1;
+            word[d] = to_go(self.tops[place], self.left[place], down);
+            downs[d] = down;
+        }
     }
 }
 
@@ -101,11 +94,10 @@ fn outcome(stop: Option<Stop>, made: u64, t: u64) -> Running
 }
 
 impl Walk {
-    // The arrays of a run from this state, by places: the radices less 1, what is left to count, what the digit there has left
-    // to go in its direction, and the byte of its next move.
-    fn load(self, tops: &mut [u8], rest: &mut [u8], left: &mut [u8], bytes: &mut [u8])
-        requires { (in_range (walk_as self) ≡ true) × Wide tops.old rest.old left.old bytes.old }
-        ensures { Loaded (walk_as self) tops.new rest.new left.new bytes.new }
+    // The arrays of a run from this state.
+    fn load(self) -> Lanes
+        requires { in_range (walk_as self) ≡ true }
+        ensures { Loaded (walk_as self) result.tops result.rest result.left result.bytes }
     {
         let radices = self.radices;
         let moving = self.moving;
@@ -115,41 +107,33 @@ impl Walk {
         let downs = self.downs;
         let producer = self.producer;
         let counter = producer.counter;
+        let mut lanes = Lanes {
+            tops: [0; PLACES],
+            rest: [0; PLACES],
+            left: [0; PLACES],
+            bytes: [0; PLACES],
+        };
         for i in 0..count {
             let number = numbers[i];
             let d = usize::from(number) - 1;
-            load_digit(
-                i + 1,
-                radices[d],
-                counter[i],
-                number,
-                word[d],
-                downs[d],
-                tops,
-                rest,
-                left,
-                bytes,
-            );
+            lanes.load_digit(i + 1, radices[d], counter[i], number, word[d], downs[d]);
         }
-        let last = count + 1;
-        tops[last] = 1;
-        rest[last] = 1 - counter[count];
+        lanes.tops[count + 1] = 1;
+        lanes.rest[count + 1] = 1 - counter[count];
+        lanes
     }
 
     // The state that the arrays stand for.
     fn unload(
         self,
-        tops: &[u8],
-        rest: &[u8],
-        left: &[u8],
-        bytes: &[u8],
+        lanes: &Lanes,
         entries: [u8; CAPACITY],
         at: Stage,
         made: u64,
         ended: bool,
     ) -> Walk
-        requires { Unloadable (walk_as self) tops.now rest.now left.now bytes.now entries at made ended }
-        ensures { Unloaded (walk_as self) tops.now rest.now left.now bytes.now
+        requires { Unloadable (walk_as self) lanes.now.tops lanes.now.rest lanes.now.left lanes.now.bytes entries at made ended }
+        ensures { Unloaded (walk_as self) lanes.now.tops lanes.now.rest lanes.now.left lanes.now.bytes
             entries at made ended (walk_as result) }
     {
         let moving = self.moving;
@@ -159,8 +143,8 @@ impl Walk {
         let mut downs = self.downs;
         let producer = self.producer;
         let mut counter = producer.counter;
-        word_back(count, &numbers, tops, left, bytes, &mut word, &mut downs);
-        counter_back(count + 1, tops, rest, &mut counter);
+        lanes.word_back(count, &numbers, &mut word, &mut downs);
+        lanes.counter_back(count + 1, &mut counter);
         Walk {
             word,
             downs,
@@ -188,11 +172,7 @@ impl Walk {
         let moving = self.moving;
         let last = usize::from(moving.count) + 1;
         let c = usize::from(self.capacity);
-        let mut tops = [0u8; stretch::PLACES];
-        let mut rest = [0u8; stretch::PLACES];
-        let mut left = [0u8; stretch::PLACES];
-        let mut bytes = [0u8; stretch::PLACES];
-        self.load(&mut tops, &mut rest, &mut left, &mut bytes);
+        let mut lanes = self.load();
         let producer = self.producer;
         let mut entries = producer.queue;
         let from = producer.at;
@@ -208,10 +188,10 @@ impl Walk {
                 last,
                 c,
                 (limit - done).min(stretch::CALLS),
-                &tops,
-                &mut rest,
-                &mut left,
-                &mut bytes,
+                &lanes.tops,
+                &mut lanes.rest,
+                &mut lanes.left,
+                &mut lanes.bytes,
                 entries,
                 at,
                 done,
@@ -222,16 +202,7 @@ impl Walk {
             done += ran.made;
             stop = ran.stop;
         }
-        let walk = self.unload(
-            &tops,
-            &rest,
-            &left,
-            &bytes,
-            entries,
-            at,
-            done as u64,
-            stop == Some(Stop::End),
-        );
+        let walk = self.unload(&lanes, entries, at, done as u64, stop == Some(Stop::End));
         Called {
             walk,
             made: done,

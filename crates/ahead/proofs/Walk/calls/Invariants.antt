@@ -7,7 +7,7 @@ use Rattle.ahead.proofs.Walk.calls.Given as goal
 
 abbrev pub invariant-loop-done : goal.invariant-loop-done
 invariant-loop-done l =
-    Calling (walk_as l.self) l.limit l.initial.out l.out l.tops l.rest l.left l.bytes l.entries l.at l.done (stop_number l.stop)
+    Calling (walk_as l.self) l.limit l.initial.out l.out l.lanes.tops l.lanes.rest l.lanes.left l.lanes.bytes l.entries l.at l.done (stop_number l.stop)
 
 abbrev pub decreases-loop-done : goal.decreases-loop-done
 decreases-loop-done l =

@@ -5,4 +5,4 @@ use Rattle.ahead.proofs.Walk.load.Given as goal
 
 abbrev pub invariant-loop-i : goal.invariant-loop-i
 invariant-loop-i l =
-    (l.i ≤ l.count) × LoadedTo l.radices l.numbers l.word l.downs l.counter l.i l.tops l.rest l.left l.bytes
+    (l.i ≤ l.count) × LoadedTo l.radices l.numbers l.word l.downs l.counter l.i l.lanes.tops l.lanes.rest l.lanes.left l.lanes.bytes
