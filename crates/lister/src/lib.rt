@@ -5,7 +5,7 @@
 
 ghost use Rattle.std.specs.Prelude.{◌≡◌, true, false, not, cond, [], ◌∷◌, ◌++◌, ◌+◌, ◌-◌, ◌*◌, ◌^◌, ◌≤◌, ◌<◌, leb, length, take, drop, set};
 ghost use Rattle.gray_theory.specs.Answers.{Wrote};
-ghost use Rattle.gray.specs.Enums.{written_as};
+ghost use Rattle.gray.specs.Enums.{answer_as};
 ghost use Rattle.gray_theory.specs.Radices.{size as size_of, all_from};
 ghost use Rattle.gray_theory.specs.Words.{even};
 ghost use Rattle.gray_theory.specs.Places.{placed};
@@ -13,7 +13,7 @@ ghost use Rattle.lister_theory.specs.Listers.{listing};
 ghost use Rattle.lister_theory.specs.Calls.{list_call};
 ghost use Rattle.lister.specs.Outputs.{window, laid, notch_after, way_after, Past, Sized, Reached, RowRoom, Listed};
 
-use gray::{Counted, DIGITS, Written, size};
+use gray::{DIGITS, Refusal, size};
 
 // C bytes of a word, from byte `start` on, to the same bytes of the word at place `at`. Their number is a constant, so they are
 // moved all at once.
@@ -236,11 +236,10 @@ fn block(
     out: &mut [u8],
 ) -> Window
     requires { (i < length radices.now) × Reached radices.now sizes.now word.old i w.skip w.left out.old w.at }
-    ensures {
-        let q = size_of (drop (i + 1) radices.now) in
-        Past (length radices.now) q w.skip w.left w.at result.skip result.left result.at
-        × Listed (way_after down a) (drop (i + 1) radices.now) i (take i word.old ++ (a ∷ [])) word.old word.new
-        w.skip w.left w.at out.old out.new }
+    ensures past { Past (length radices.now) (size_of (drop (i + 1) radices.now))
+        w.skip w.left w.at result.skip result.left result.at }
+    ensures listed { Listed (way_after down a) (drop (i + 1) radices.now) i (take i word.old ++ (a ∷ []))
+        word.old word.new w.skip w.left w.at out.old out.new }
 {
     let n = radices.len();
     let q = sizes[i];
@@ -302,30 +301,27 @@ fn block_sizes(radices: &[u8]) -> [usize; DIGITS]
 fn within(total: u64, from: u64, count: u64) -> bool
     ensures { result ≡ leb (from + count) total }
 {
-    if total < from {
-        return false;
-    }
-    count <= total - from
+    from <= total && count <= total - from
 }
 
 // The settings of ranks `from` to `from + count - 1`, one after another, at the start of `out`.
-pub fn list(radices: &[u8], from: u64, count: u64, out: &mut [u8]) -> Written
-    ensures { Wrote (list_call radices.now from count) (written_as result) out.old out.new }
+pub fn list(radices: &[u8], from: u64, count: u64, out: &mut [u8]) -> Result<usize, Refusal>
+    ensures { Wrote (list_call radices.now from count) (answer_as result) out.old out.new }
 {
     let counted = size(radices);
-    let Counted::Size(total) = counted else {
-        return Written::Refused(counted.number());
+    let Ok(total) = counted else {
+        return Err(counted.unwrap_err());
     };
     if !within(total, from, count) {
-        return Written::Refused(8);
+        return Err(Refusal::Word);
     }
     let n = radices.len();
     let room = (out.len() / n) as u64;
     if room < count {
-        return Written::Refused(9);
+        return Err(Refusal::Output);
     }
     if count == 0 {
-        return Written::Bytes(0);
+        return Ok(0);
     }
     let sizes = block_sizes(radices);
     let mut word = [0u8; DIGITS];
@@ -337,6 +333,5 @@ pub fn list(radices: &[u8], from: u64, count: u64, out: &mut [u8]) -> Written
         at: 0,
     };
     up(radices, &sizes, &mut word, 0, window, out);
-    let length = words * n;
-    Written::Bytes(length)
+    Ok(words * n)
 }

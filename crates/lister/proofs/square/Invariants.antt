@@ -10,5 +10,3 @@ invariant-loop-u l =
     let whole = set l.word (length l.radices - 3) l.a in
     Along l.down l.radices l.i l.skip l.left l.start whole l.initial.out whole l.out l.u l.w.skip l.w.left l.w.at
 
-abbrev pub decreases-loop-u : goal.decreases-loop-u
-decreases-loop-u l = l.m - l.u
