@@ -15,40 +15,42 @@ ghost use Rattle.lister.specs.Outputs.{window, laid, notch_after, way_after, Pas
 
 use gray::{DIGITS, Refusal, size};
 
-// C bytes of a word, from byte `start` on, to the same bytes of the word at place `at`. Their number is a constant, so they are
-// moved all at once.
+// C bytes of a word, from byte `start` on, to the same bytes of the word at place `at`. They go by way of a local array: nothing
+// else refers to it, so they can all be moved at once.
 fn copy<const C: usize>(word: &[u8; DIGITS], start: usize, out: &mut [u8], at: usize)
     requires { (start + C ≤ 48) × (at + start + C ≤ length out.old) }
     ensures { out.new ≡ placed (at + start) (take C (drop start word.now)) out.old }
 {
+    let mut chunk = [0u8; C];
+    chunk.copy_from_slice(&word[start..start + C]);
     let place = at + start;
-    out[place..place + C].copy_from_slice(&word[start..start + C]);
+    out[place..place + C].copy_from_slice(&chunk);
 }
 
-// The first k bytes of a word in chunks of C bytes; the last chunk may begin within the one before.
-fn copy_by<const C: usize>(word: &[u8; DIGITS], k: usize, out: &mut [u8], at: usize)
-    requires { (0 < C) × (C ≤ k) × (k ≤ 48) × (at + k ≤ length out.old) }
+// The first k bytes of a word: C of them from the start and C up to the end, which may be the same in part.
+fn copy_ends<const C: usize>(word: &[u8; DIGITS], k: usize, out: &mut [u8], at: usize)
+    requires { (C ≤ k) × (k ≤ 2 * C) × (k ≤ 48) × (at + k ≤ length out.old) }
     ensures { out.new ≡ placed at (take k word.now) out.old }
 {
-    for i in 0..k / C {
-        copy::<C>(word, i * C, out, at);
-    }
+    copy::<C>(word, 0, out, at);
     copy::<C>(word, k - C, out, at);
 }
 
-// In chunks of a constant length: a copy of k bytes at once would be a call, which takes longer than the word.
+// By copies of a constant length: one of k bytes would be a loop over bytes or a call.
 fn put(word: &[u8; DIGITS], k: usize, out: &mut [u8], at: usize)
     requires { (k ≤ 48) × (at + k ≤ length out.old) }
     ensures { out.new ≡ placed at (take k word.now) out.old }
 {
-    if 16 <= k {
-        copy_by::<16>(word, k, out, at);
+    if 32 <= k {
+        copy_ends::<32>(word, k, out, at);
+    } else if 16 <= k {
+        copy_ends::<16>(word, k, out, at);
     } else if 8 <= k {
-        copy_by::<8>(word, k, out, at);
+        copy_ends::<8>(word, k, out, at);
     } else if 4 <= k {
-        copy_by::<4>(word, k, out, at);
+        copy_ends::<4>(word, k, out, at);
     } else if 2 <= k {
-        copy_by::<2>(word, k, out, at);
+        copy_ends::<2>(word, k, out, at);
     } else if 1 <= k {
         copy::<1>(word, 0, out, at);
     }

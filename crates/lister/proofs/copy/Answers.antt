@@ -23,4 +23,4 @@ returns g c =
     let count : start + g.row.C - start ≡ g.row.C = omega arith in
     let long : length (take g.row.C (drop start w)) ≡ g.row.C = length-take-le g.row.C (drop start w) (omega (arith, length-drop start w)) in
     written_over (c.args.at + start) g.row.C _ c.args.out.now _ _ (omega arith)
-    (c.copy_from_slice.ensures.after ∙ ap (λ k. take k (drop start w)) count) long
+    (c.copy_from_slice-2.ensures.after ∙ c.copy_from_slice.ensures.after ∙ ap (λ k. take k (drop start w)) count) long

@@ -9,4 +9,3 @@ abbrev pub invariant-loop-u : goal.invariant-loop-u
 invariant-loop-u l =
     let whole = set l.word (length l.radices - 3) l.a in
     Along l.down l.radices l.i l.skip l.left l.start whole l.initial.out whole l.out l.u l.w.skip l.w.left l.w.at
-
