@@ -114,24 +114,13 @@ impl Window {
 }
 
 // The words in which only the last digit moves; a and b are the two before it.
-fn row(
-    word: &[u8; DIGITS],
-    n: usize,
-    a: u8,
-    b: u8,
-    m: usize,
-    down: bool,
-    skip: usize,
-    left: usize,
-    out: &mut [u8],
-    start: usize,
-)
-    requires { RowRoom word.now n m skip left out.old start }
-    ensures { out.new ≡ laid start (take (n - 3) word.now ++ (a ∷ b ∷ [])) (window skip left (listing down (m ∷ []))) out.old }
+fn row(word: &[u8; DIGITS], n: usize, a: u8, b: u8, m: usize, down: bool, w: Window, out: &mut [u8])
+    requires { RowRoom word.now n m w.skip w.left out.old w.at }
+    ensures { out.new ≡ laid w.at (take (n - 3) word.now ++ (a ∷ b ∷ [])) (window w.skip w.left (listing down (m ∷ []))) out.old }
 {
-    let end = m.min(skip + left);
-    let mut at = start;
-    for u in skip..end {
+    let end = m.min(w.skip + w.left);
+    let mut at = w.at;
+    for u in w.skip..end {
         put_word(word, n, a, b, notch(m, down, u), out, at);
         at += n;
     }
@@ -146,24 +135,17 @@ fn square(
     word: &[u8; DIGITS],
     a: u8,
     down: bool,
-    skip: usize,
-    left: usize,
+    mut w: Window,
     out: &mut [u8],
-    start: usize,
 )
-    requires { (3 ≤ length radices.now) × Reached radices.now sizes.now (set word.now (length radices.now - 3) a) (length radices.now - 2) skip left out.old start }
-    ensures { out.new ≡ laid start (take (length radices.now - 3) word.now ++ (a ∷ [])) (window skip left (listing down (drop (length radices.now - 2) radices.now))) out.old }
+    requires { (3 ≤ length radices.now) × Reached radices.now sizes.now (set word.now (length radices.now - 3) a) (length radices.now - 2) w.skip w.left out.old w.at }
+    ensures { out.new ≡ laid w.at (take (length radices.now - 3) word.now ++ (a ∷ [])) (window w.skip w.left (listing down (drop (length radices.now - 2) radices.now))) out.old }
 {
     let n = radices.len();
     let i = n - 2;
     let m = usize::from(radices[i]);
     let last = usize::from(radices[i + 1]);
     let q = sizes[i];
-    let mut w = Window {
-        skip,
-        left,
-        at: start,
-    };
     for u in 0..m {
         if w.left == 0 {
             break;
@@ -171,7 +153,7 @@ fn square(
         if w.skip < q {
             let b = notch(m, down, u);
             let downward = turn(b, down);
-            row(word, n, a, b, last, downward, w.skip, w.left, out, w.at);
+            row(word, n, a, b, last, downward, w, out);
         }
         w = w.past(q, n);
     }
@@ -248,7 +230,7 @@ fn block(
     if w.skip < q {
         let downward = turn(a, down);
         if i + 3 == n {
-            square(radices, sizes, word, a, downward, w.skip, w.left, out, w.at);
+            square(radices, sizes, word, a, downward, w, out);
         } else {
             remaining(radices, sizes, word, i, a, downward, w, out);
         }
