@@ -3,21 +3,20 @@ use Prim.Native.Nat.{ℕ, zero, suc, ◌+◌, ◌-◌, ◌*◌, ◌^◌, ◌≤�
 use mathlib.Core.Path.{◌≡◌, refl, sym, ap, ◌∙◌}
 use mathlib.Core.Bool.{Bool, true, false, cond, not}
 use mathlib.Core.List.{List, [], ◌∷◌, ◌++◌, map, append-nil, map-append, map-id}
-use native.Mathlib.Nat.{add-zero, add-mul, mul-one, sub-add-eq}
+use native.Mathlib.Nat.{add-zero, add-mul, sub-add-eq}
 use native.Mathlib.Numerals.{add-one}
 use native.Mathlib.Decide.{dec_lt}
 use native.Mathlib.Omega.{arith}
-use lib.ListN.{length, get_or, take, drop, set, length-append, length-map, length-drop, length-set, drop_of_length-le}
-use lib.Seq.{drop-cons, length-take-le, take-suc-set, take-take, take-set-le, append_snoc}
+use lib.ListN.{length, get_or, take, drop, length-append, length-map, length-drop}
+use lib.Seq.{drop-cons, length-take-le}
 use Rattle.gray_theory.specs.Radices.{size}
 use Rattle.gray_theory.specs.Words.{even, upward, downward}
 use Rattle.lister_theory.specs.Listers.{blocks, listing}
-use Rattle.gray_theory.specs.Places.{placed}
-use Rattle.lister.specs.Outputs.{window, laid, notch_after, way_after, Past, Reached, RowRoom, Listed}
+use Rattle.lister.specs.Outputs.{window, laid, notch_after, way_after, Past, Reached, Listed}
 use Rattle.lister_theory.proofs.Reflections.{length-listing}
-use Rattle.lister.proofs.Windows.{window-append, window-none, window-past, one_word, window-map, length-window}
+use Rattle.lister.proofs.Windows.{window-append, window-none, window-past, window-map, length-window}
 use Rattle.lister.proofs.Windows.{blocks-append, Each, each_window, each_blocks, each_listing}
-use Rattle.lister.proofs.Windows.{laid_none, laid_word, laid-append, laid-after}
+use Rattle.lister.proofs.Windows.{laid_none, laid-append, laid-after}
 
 -- the words that begin with the first u notches that a lister comes to
 unfoldable pub begun : Bool → ℕ → List ℕ → ℕ → List (List ℕ)

@@ -127,8 +127,7 @@ fn row(word: &[u8; DIGITS], n: usize, a: u8, b: u8, m: usize, down: bool, w: Win
 }
 
 // The words in which only the last two digits move; a is the one before them. None of the three is stored in `word`: to load
-// bytes just after one of them was stored takes long. The window comes as three numbers, since a struct would go by way of
-// memory.
+// bytes just after one of them was stored takes long.
 fn square(
     radices: &[u8],
     sizes: &[usize; DIGITS],

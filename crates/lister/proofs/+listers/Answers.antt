@@ -37,10 +37,10 @@ pub down-loop-a-preserved : goal.down-loop-a-preserved
 down-loop-a-preserved t c =
     let m = get_or c.args.radices.now c.args.i 0 in
     let a = c.loop-a.a in
-    let more : m - (a - 1) ≡ m - a + 1 = omega (arith, c.loop-a-test.true, c.loop-a.auto.a) in
+    let more : m - (a - 1) ≡ m - a + 1 = omega arith in
     rw more
     (along_after true c.requires.0 c.requires.1 c.loop-a.invariant
-    (omega (arith, c.loop-a-test.true, c.loop-a.auto.a)) (omega (arith, c.loop-a-test.true, c.loop-a.auto.a))
+    (omega arith) (omega arith)
     c.block-w.ensures.past c.block-w.ensures.listed c.block-w.auto.out)
 
 pub down-returns-after-loop-a : goal.down-returns-after-loop-a

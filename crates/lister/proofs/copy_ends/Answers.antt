@@ -1,6 +1,6 @@
 -- `lister::copy_ends` meets its contract: the last bytes begin no later than where the first ones end. Assumes nothing.
 use Prim.Native.Nat.{◌+◌, ◌-◌}
-use mathlib.Core.Path.{◌≡◌, sym, ap, ◌∙◌}
+use mathlib.Core.Path.{◌≡◌, ap, ◌∙◌}
 use native.Mathlib.Omega.{arith}
 use lib.ListN.{take, drop}
 use Rattle.gray_theory.specs.Places.{placed}

@@ -1,8 +1,8 @@
 -- `lister::square` meets its contract: it is a lister of the last two digits. The invariant of its loop is `Along` of a word
 -- that is stored nowhere, with digit a in its place, and `Turns` says what a turn does to it. Assumes nothing.
-use Prim.Native.Nat.{◌-◌, ◌≤◌, ◌<◌}
+use Prim.Native.Nat.{◌-◌, ◌<◌}
 use native.Mathlib.Omega.{arith}
-use mathlib.Core.Path.{◌≡◌, refl, sym, ap, ◌∙◌}
+use mathlib.Core.Path.{refl, sym, ap, ◌∙◌}
 use lib.ListN.{length, get_or, set}
 use borrow.Author.Rules.{rules}
 use Rattle.lister.specs.Outputs.{notch_after, Reached}
