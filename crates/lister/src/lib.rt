@@ -3,11 +3,10 @@
 
 #![tactic(auto)]
 
-ghost use Rattle.std.specs.Prelude.{◌≡◌, true, false, not, cond, [], ◌∷◌, ◌++◌, ◌+◌, ◌-◌, ◌*◌, ◌^◌, ◌≤◌, ◌<◌, leb, length, take, drop, set};
+ghost use Rattle.std.specs.Prelude.{◌≡◌, true, false, [], ◌∷◌, ◌++◌, ◌+◌, ◌-◌, ◌*◌, ◌^◌, ◌≤◌, ◌<◌, leb, length, take, drop, set};
 ghost use Rattle.gray_theory.specs.Answers.{Wrote};
 ghost use Rattle.gray.specs.Enums.{answer_as};
 ghost use Rattle.gray_theory.specs.Radices.{size as size_of, all_from};
-ghost use Rattle.gray_theory.specs.Words.{even};
 ghost use Rattle.gray_theory.specs.Places.{placed};
 ghost use Rattle.lister_theory.specs.Listers.{listing};
 ghost use Rattle.lister_theory.specs.Calls.{list_call};
