@@ -1,5 +1,5 @@
 -- The lines of a file one after another: what the proofs of the functions that go through it cite.
-use Rattle.std.specs.Prelude.{Option, Some, None, Result, Ok, Err}
+use Rattle.std.specs.Prelude.{Some, None, Ok, Err}
 use Prim.Native.Nat.{ℕ, ◌+◌, ◌-◌, ◌%◌, ◌^◌, ◌≤◌, ◌<◌}
 use native.Mathlib.Omega.{arith}
 use native.Mathlib.Decide.{dec_lt}
@@ -7,7 +7,7 @@ use mathlib.Core.Path.{◌≡◌, refl, sym, ap, ap₂, subst, ◌∙◌}
 use mathlib.Core.Bool.{Bool, true, false, cond, ◌&&◌, ◌||◌, not, beq, and-eq-true_iff, or-false}
 use mathlib.Core.List.{List, [], ◌∷◌, map, flatten}
 use borrow.Author.Tests.{le-leb, lt-leb, lt-ltb, le-ltb}
-use lib.Dec.{eqb, leb, ltb}
+use lib.Dec.{leb, ltb}
 use lib.ListN.{length, take, drop, length-append, length-drop, drop_of_length-le}
 use lib.Seq.{drop-drop}
 use Rattle.gray_theory.specs.Bools.{impossible}
@@ -19,8 +19,7 @@ use Rattle.tides_theory.proofs.Few.{minute_of_a_line}
 use Rattle.gray.specs.declared.Refusal.TheVariants.{Line, Order}
 use Rattle.tides.specs.Stages.{day_of, Right, tide_in, water, says, line_as, fresh_course, last_is, is_low, closes, course_then, passing}
 use Rattle.tides.specs.declared.line.Day.{Day}
-use Rattle.tides.specs.declared.line.Water.{Water}
-use Rattle.tides.specs.declared.line.Water.TheVariants.{High, Low}
+use Rattle.tides.specs.declared.line.Water.TheVariants.{High}
 use Rattle.tides.specs.declared.line.Tide.{Tide as LineTide}
 use Rattle.tides.specs.declared.course.Course.{Course}
 use Rattle.tides.proofs.line.Readings.{day_right, answer}

@@ -6,10 +6,9 @@ use native.Mathlib.Omega.{arith}
 use mathlib.Core.Path.{◌≡◌, refl, sym, ap, ap₂, subst, ◌∙◌}
 use mathlib.Core.Bool.{Bool, true, false, cond, ◌&&◌, not, beq, and-eq-true_iff}
 use mathlib.Core.List.{List, [], ◌∷◌, ◌++◌, map}
-use borrow.Author.Tests.{le-ltb, lt-ltb}
 use lib.Dec.{ltb, eqb}
 use lib.ListN.{length, get_or, take, drop, set, length-map, length-take, length-drop, get_or-map}
-use lib.Seq.{drop-cons, drop-drop, take_all, set_at, take-suc, length-take-le, append_snoc, get_or-take}
+use lib.Seq.{drop-cons, drop-drop, take_all, set_at, take-suc, length-take-le, append_snoc}
 use Rattle.gray_theory.specs.Bools.{impossible}
 use Rattle.tides_theory.specs.Lines.{low_letter, lines_in, notice_in, is_line, all_lines}
 use Rattle.tides_theory.specs.Windows.{Tide, tide_of, follows, in_order, Window, window_of, windows, no_window, moves_that_fit}

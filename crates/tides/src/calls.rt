@@ -7,10 +7,9 @@ ghost use Rattle.tides_theory.specs.Calls.{windows_in, counts_call, may_begin_ca
 ghost use Rattle.gray.specs.Enums.{answer_as};
 ghost use Rattle.tides.specs.Stages.{passing, first_high};
 
-use gray::Refusal;
-
 use crate::course::{Course, MOVE_TIME, WAIT};
 use crate::line::{Day, LINE, Line, minute_of, read_line};
+use gray::Refusal;
 
 // A file that is in order: how many windows it has, and whether one allows the minute that is asked for.
 #[derive(Clone, Copy)]

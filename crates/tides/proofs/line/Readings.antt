@@ -2,7 +2,7 @@
 use Rattle.std.specs.Prelude.{Option, Some, None}
 use Prim.Native.Nat.{ℕ, zero, suc, ◌+◌, ◌-◌, ◌/◌, ◌%◌, ◌≤◌, ◌<◌}
 use native.Mathlib.Omega.{arith}
-use mathlib.Core.Path.{◌≡◌, refl, sym, ap, ap₂, subst, ◌∙◌}
+use mathlib.Core.Path.{◌≡◌, refl, sym, ap, subst, ◌∙◌}
 use mathlib.Core.Bool.{Bool, true, false, cond, ◌||◌, and-eq-true_iff}
 use mathlib.Core.List.{List, [], ◌∷◌}
 use borrow.Author.Tests.{eqb-true, eq-eqb}
@@ -18,7 +18,6 @@ use Rattle.tides_theory.proofs.FieldDigits.{glyph_is_digit}
 use Rattle.tides_theory.proofs.Exact.{notices_have_lines, lines_are_their_notices, lines_say_what_is_in_range}
 use Rattle.tides.specs.declared.line.Water.{Water}
 use Rattle.tides.specs.declared.line.Tide.{Tide}
-use Rattle.tides.specs.declared.line.Day.{Day}
 use Rattle.tides.specs.declared.line.Fields.{Fields}
 use Rattle.tides.specs.Stages.{date_marks, time_marks, date_ones, time_ones, is_letter, pair_of, fields_of}
 use Rattle.tides.specs.Stages.{date_ranged, time_ranged, minute_in, dated, day_of, Right, tide_in, letter_of, water, water_of, says, line_as}
@@ -237,9 +236,9 @@ line_read_lem line long p =
     let d = date-says line p.date in
     let r = notices_have_lines (notice_of f high) (ranged_in_range f high d.ranged (time_ranged_says f p.range)) in
     sym (
-      ap (answer line) (ap is_line same ∙ r.read)
-      ∙ ap (λ m. Some (record { minute = (tide_of m).at; water = water (tide_of m).high; day = day_of line })) (ap notice_in same ∙ r.says)
-      ∙ ap (λ m. Some (record { minute = m; water = water high; day = day_of line })) (sym (minute_of_lem f high))
+    ap (answer line) (ap is_line same ∙ r.read)
+    ∙ ap (λ m. Some (record { minute = (tide_of m).at; water = water (tide_of m).high; day = day_of line })) (ap notice_in same ∙ r.says)
+    ∙ ap (λ m. Some (record { minute = m; water = water high; day = day_of line })) (sym (minute_of_lem f high))
     )
 
 -- and where a test fails that each line passes

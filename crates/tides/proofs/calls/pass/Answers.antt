@@ -4,7 +4,7 @@ use Rattle.std.specs.Bool.{◌==◌}
 use Prim.Native.Nat.{◌*◌, ◌≤◌, ◌<◌}
 use native.Mathlib.Omega.{arith}
 use mathlib.Core.Path.{◌≡◌, sym, ap, subst, ◌∙◌}
-use mathlib.Core.Bool.{Bool, true, false}
+use mathlib.Core.Bool.{true, false}
 use mathlib.Core.List.{[]}
 use borrow.Author.Tests.{not-true, not-false, eqb-true}
 use lib.ListN.{length, get_or, take, drop}
@@ -46,9 +46,9 @@ pub returns-then-not-is_empty : goal.returns-then-not-is_empty
 returns-then-not-is_empty c =
     no_lines c.args.file.now c.args.minute
     (λ whole.
-      let none : length c.as_chunks.result.1.now ≡ 0 = c.as_chunks.ensures.back_len ∙ whole in
-      let z : false ≡ true = c.if-not-is_empty.ensures ∙ ap (λ n. n == 0) none in
-      impossible (cc))
+    let none : length c.as_chunks.result.1.now ≡ 0 = c.as_chunks.ensures.back_len ∙ whole in
+    let z : false ≡ true = c.if-not-is_empty.ensures ∙ ap (λ n. n == 0) none in
+    impossible (cc))
 
 pub loop-line-init : goal.loop-line-init
 loop-line-init c = (

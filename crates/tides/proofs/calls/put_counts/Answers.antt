@@ -1,13 +1,13 @@
 -- `tides::calls::put_counts` meets its contract: behind i windows their counts are written. Assumes nothing.
-use Prim.Native.Nat.{ℕ, ◌+◌, ◌-◌, ◌*◌, ◌/◌, ◌≤◌, ◌<◌}
+use Prim.Native.Nat.{ℕ, ◌+◌, ◌*◌, ◌≤◌, ◌<◌}
 use native.Mathlib.Omega.{arith}
 use native.Mathlib.Nat.{add-zero}
-use mathlib.Core.Path.{◌≡◌, refl, sym, ap, ap₂, ◌∙◌}
+use mathlib.Core.Path.{◌≡◌, refl, ap, ap₂, ◌∙◌}
 use mathlib.Core.List.{[]}
 use lib.ListN.{length, get_or, take, drop, length-set}
 use Rattle.tides_theory.specs.Lines.{is_line}
 use Rattle.tides_theory.specs.Windows.{moves_that_fit}
-use Rattle.tides.specs.Stages.{tide_in, first_high}
+use Rattle.tides.specs.Stages.{tide_in}
 use Rattle.tides.proofs.Cuts.{pairs_many, of_pair}
 use Rattle.tides.proofs.Writing.{start, starts_at, put-none, Here, here, more_windows, put_more, put_all}
 use Rattle.tides.proofs.calls.put_counts.Goals as goal

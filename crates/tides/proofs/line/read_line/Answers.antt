@@ -2,14 +2,13 @@
 use Rattle.std.specs.Prelude.{Some}
 use Prim.Native.Nat.{ℕ, ◌+◌}
 use mathlib.Core.Path.{◌≡◌, sym, ap, ap₂, ◌∙◌}
-use mathlib.Core.Bool.{Bool, true}
+use mathlib.Core.Bool.{true}
 use mathlib.Core.List.{List}
 use lib.Dec.{eqb}
 use lib.ListN.{get_or}
 use Rattle.tides_theory.specs.Lines.{high_letter}
 use Rattle.tides.specs.declared.line.Day.{Day}
 use Rattle.tides.specs.declared.line.Tide.{Tide}
-use Rattle.tides.specs.declared.line.Water.{Water}
 use Rattle.tides.specs.Stages.{is_letter, fields_of, time_ranged, time_in, minute_in, water}
 use Rattle.tides.proofs.line.Answered.{failed, passed}
 use Rattle.tides.proofs.line.Ranges.{time_ranged_says, minute_fits}

@@ -1,7 +1,7 @@
 -- `tides::line::Day::read` meets its contract: each test is one of those of `dated`. Assumes nothing.
-use mathlib.Core.Path.{◌≡◌, sym, ap, ◌∙◌}
-use mathlib.Core.Bool.{false, and-false}
-use Rattle.tides.specs.Stages.{date_marks, date_ones, date_ranged, start_in, dated, fields_of}
+use mathlib.Core.Path.{sym, ap, ◌∙◌}
+use mathlib.Core.Bool.{and-false}
+use Rattle.tides.specs.Stages.{date_marks, date_ones, date_ranged, start_in, fields_of}
 use Rattle.tides.proofs.line.Answered.{failed, passed, all_pass}
 use Rattle.tides.proofs.line.Dates.{undated, dated_as}
 use Rattle.tides.proofs.line.Day.read.Goals as goal
