@@ -1,0 +1,70 @@
+// The calls that no engine is for.
+
+use crate::print::{Items, direction, print, print_answer, print_lent, written};
+use crate::words::{Given, narrow};
+use gray::{Counted, Ranked};
+use movelog::Reading;
+
+fn size_case(radices: &[u8]) {
+    let counted = gray::size(radices);
+    print_answer(match counted {
+        Counted::Size(total) => Ok(total),
+        Counted::Refused(k) => Err(k),
+    });
+    print(format_args!("; number {}", counted.number()));
+}
+
+fn rank_case(radices: &[u8], numbers: &[u64]) -> Option<()> {
+    let mut word = [0u8; 64];
+    let ranked = gray::rank(radices, narrow(numbers, &mut word)?);
+    print_answer(match ranked {
+        Ranked::Rank(r) => Ok(r),
+        Ranked::Refused(k) => Err(k),
+    });
+    Some(())
+}
+
+// What a log is read as, and the part of it that holds the moves.
+fn read_case(log: &[u8]) {
+    print_answer(match movelog::read(log) {
+        Reading::Moves(t) => Ok(t),
+        Reading::Refused(k) => Err(k),
+    });
+    print(format_args!(";{}", Items(movelog::moves(log))));
+}
+
+fn move_case(digits: &[u8], down: bool) -> Option<()> {
+    let &[digit] = digits else {
+        return None;
+    };
+    let byte = digit::move_byte(digit, down);
+    let read = digit::move_digit(byte);
+    print(format_args!(
+        ": {byte}; digit {read} {}",
+        direction(digit::move_down(byte))
+    ));
+    Some(())
+}
+
+pub fn call(name: &[u8], given: Given) -> Option<()> {
+    let list = given.list;
+    match (name, given.numbers) {
+        (b"rank", numbers) => rank_case(list, numbers)?,
+        (b"size", []) => size_case(list),
+        (b"read", []) => read_case(list),
+        (b"up", []) => move_case(list, false)?,
+        (b"down", []) => move_case(list, true)?,
+        (b"word", &[rank, lent]) => print_lent(lent, |out| written(gray::word(list, rank, out))),
+        (b"list", &[from, count, lent]) => {
+            print_lent(lent, |out| written(lister::list(list, from, count, out)))
+        }
+        (b"write", &[capacity, moves, lent]) => {
+            print_lent(
+                lent,
+                |out| written(movelog::write(list, capacity as usize, moves, out)),
+            )
+        }
+        _ => return None,
+    }
+    Some(())
+}
