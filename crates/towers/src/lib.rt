@@ -36,15 +36,15 @@ pub struct Towers {
 }
 
 // Whether each of the first n bytes passes a test; where n is over 48, each of all. The loop goes over all places, whatever n
-// is, and gathers its tests with no way out in between: three turns on vectors. The place's number is counted as a byte, since
-// an index would be compared as 64 bits.
+// is, and gathers its tests with no way out in between: three turns on vectors.
 fn all_pass<F: Fn(u8) -> bool>(n: u8, bytes: [u8; DIGITS], passes: F) -> bool
     requires { F.IsAlwaysCallable passes }
     ensures { (test : ℕ → Bool) → TestsBytes (F.post passes) test
         → result ≡ all_below (length (take n bytes)) (λ i. test (get_or bytes i 0)) }
 {
-    let mut number: u8 = 0;
     let mut ok = true;
+    // The number is counted beside the byte for speed: made of the index, it is compared as 64 bits.
+    let mut number: u8 = 0;
     for byte in bytes {
         number += 1;
         ok &= (n < number) | passes(byte);
@@ -193,44 +193,62 @@ fn move_digit(radices: &[u8], at: usize, word: &mut [u8], downs: &mut [bool]) ->
     digit::move_byte(at as u8 + 1, down)
 }
 
-// One call of a run, in lent arrays: the byte of its move and the turn after it, if it finds a disk. (One search for both games,
-// and one move, would take 1.5 times as long.)
-fn play(
+// What stays the same in a run: the radix that tells the game, the radices, how many digits there are, the numbers of those that
+// move, and how many those are.
+#[derive(Clone, Copy)]
+struct Game<'a> {
     m: u8,
-    radices: &[u8],
+    radices: &'a [u8],
     n: u8,
-    digits: &[u8],
+    digits: &'a [u8],
     count: u8,
-    word: &mut [u8],
-    turn: u8,
-    downs: &mut [bool],
-    pegs: &mut [u8],
-) -> Option<(u8, u8)>
-    requires { Playing m (state_of radices.now n digits.now count word.old turn downs.old pegs.old) }
-    ensures { Called
-        (step_of
-        (state_of radices.now n digits.now count word.old turn downs.old
-        pegs.old))
-        (λ next. state_of radices.now n digits.now count word.new next downs.new
-        pegs.new)
-        turn
-        result }
-{
-    let free = count == n;
-    let most = usize::from(count);
-    let odd = m % 2 != 0;
-    if odd {
-        let i = first_on_pair(radices, word, free, &digits[..most], turn)?;
+}
+
+impl<'a> Game<'a> {
+    // One call of a run, in lent arrays: the byte of its move and the turn after it, if it finds a disk. (One search for both
+    // games, and one move, would take 1.5 times as long.)
+    fn play(
+        self,
+        word: &mut [u8],
+        turn: u8,
+        downs: &mut [bool],
+        pegs: &mut [u8],
+    ) -> Option<(u8, u8)>
+        requires { Playing self.m
+            (state_of self.radices.now self.n self.digits.now self.count word.old turn downs.old
+            pegs.old) }
+        ensures { Called
+            (step_of
+            (state_of self.entry.radices.now self.entry.n self.entry.digits.now self.entry.count word.old turn downs.old
+            pegs.old))
+            (λ next. state_of self.entry.radices.now self.entry.n self.entry.digits.now self.entry.count word.new next downs.new
+            pegs.new)
+            turn
+            result }
+    {
+        let Game {
+            m,
+            radices,
+            n,
+            digits,
+            count,
+        } = self;
+        let free = count == n;
+        let most = usize::from(count);
+        let odd = m % 2 != 0;
+        if odd {
+            let i = first_on_pair(radices, word, free, &digits[..most], turn)?;
+            let at = index_at(free, digits, i);
+            return Some((move_digit(radices, at, word, downs), 1 - turn));
+        }
+        let i = first_on_ring(m, turn, &pegs[..most])?;
+        pegs[i] = next_peg(m, i, pegs[i]);
         let at = index_at(free, digits, i);
-        return Some((move_digit(radices, at, word, downs), 1 - turn));
+        Some((
+            move_digit(radices, at, word, downs),
+            next_turn(false, m, turn),
+        ))
     }
-    let i = first_on_ring(m, turn, &pegs[..most])?;
-    pegs[i] = next_peg(m, i, pegs[i]);
-    let at = index_at(free, digits, i);
-    Some((
-        move_digit(radices, at, word, downs),
-        next_turn(false, m, turn),
-    ))
 }
 
 // The state that opening gives: the word all 0, the directions all up, the left pair's turn or a sweep's start, all disks on
@@ -249,6 +267,7 @@ fn fresh(radices: [u8; DIGITS], n: u8, moving: MovingDigits) -> Towers
     }
 }
 
+// Methods take the arrays that they read into locals for speed: read from self, a call takes 1.3 times as long.
 impl Towers {
     // The state of no survey: every call on it gets 7.
     pub fn closed() -> Towers
@@ -426,18 +445,15 @@ impl Towers {
         let mut turn = self.turn;
         let mut downs = self.downs;
         let mut pegs = self.pegs;
+        let game = Game {
+            m,
+            radices: &radices,
+            n: self.n,
+            digits: &digits,
+            count: moving.count,
+        };
         for k in 0..t {
-            let made = play(
-                m,
-                &radices,
-                self.n,
-                &digits,
-                moving.count,
-                &mut word,
-                turn,
-                &mut downs,
-                &mut pegs,
-            );
+            let made = game.play(&mut word, turn, &mut downs, &mut pegs);
             let Some((byte, next)) = made else {
                 let towers = Towers {
                     word,

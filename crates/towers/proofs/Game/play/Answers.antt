@@ -1,4 +1,4 @@
--- `towers::play` meets its contract: each path is one course of a call. Assumes nothing.
+-- `towers::Game::play` meets its contract: each path is one course of a call. Assumes nothing.
 use Prim.Native.Nat.{◌≤◌, ◌<◌}
 use mathlib.Core.Path.{sym, subst}
 use mathlib.Core.Bool.{Bool, cond}
@@ -11,14 +11,14 @@ use Rattle.towers.proofs.Games.{odd_rest, no_rest, one_of_two}
 use Rattle.towers.proofs.Steps.{Chosen, count_fits, number_held, radix_positive, first_disk, pair_disks, turn_below, peg_within}
 use Rattle.towers.proofs.Steps.{chooses_on_pair, chooses_on_ring, movable}
 use Rattle.towers.proofs.Runs.{call_ends, pair_chosen, ring_chosen, pair_moves, ring_moves}
-use Rattle.towers.proofs.play.Goals as goal
-use Rattle.towers.proofs.play.Goals.{Start, After-from-most, In_ok-i, In_ok-i-2}
+use Rattle.towers.proofs.Game.play.Goals as goal
+use Rattle.towers.proofs.Game.play.Goals.{Start, After-from-most, In_ok-i, In_ok-i-2}
 
 -- the state that is lent
 abbrev state : Start → Towers
 state c =
     let a = c.args in
-    state_of a.radices.now a.n a.digits.now a.count a.word.now a.turn a.downs.now a.pegs.now
+    state_of a.self.radices.now a.self.n a.self.digits.now a.self.count a.word.now a.turn a.downs.now a.pegs.now
 
 fits : (c : After-from-most) → c.from-most.result ≤ 48
 fits c =
@@ -29,11 +29,11 @@ fits c =
 
 -- the disk that is found
 pair : (c : In_ok-i)
-    → let a = c.args in Chosen (state_of a.radices.now a.n a.digits.now a.count a.word.now a.turn a.downs.now a.pegs.now) c.in_ok-i.i
+    → let a = c.args in Chosen (state_of a.self.radices.now a.self.n a.self.digits.now a.self.count a.word.now a.turn a.downs.now a.pegs.now) c.in_ok-i.i
 pair c = pair_chosen _ _ c.requires _ c.from-most.ensures _ (odd_rest _ c.if-odd.true) c.in_ok-i.ensures
 
 ring : (c : In_ok-i-2)
-    → let a = c.args in Chosen (state_of a.radices.now a.n a.digits.now a.count a.word.now a.turn a.downs.now a.pegs.now) c.in_ok-i-2.i
+    → let a = c.args in Chosen (state_of a.self.radices.now a.self.n a.self.digits.now a.self.count a.word.now a.turn a.downs.now a.pegs.now) c.in_ok-i-2.i
 ring c = ring_chosen _ _ c.requires _ c.from-most.ensures _ (no_rest _ c.if-odd.false) c.in_ok-i-2.ensures
 
 -- ---- three pegs
@@ -142,7 +142,7 @@ pub next_turn-requires : goal.next_turn-requires
 next_turn-requires c =
     let p = c.requires in
     let s = state (goal.at.next_turn-requires c).Start in (
-      subst (λ (o : Bool). c.args.turn < cond o 2 c.args.m) (no_rest _ c.if-odd.false) (turn_below s p.long p.ranged _ p.told),
+      subst (λ (o : Bool). c.args.turn < cond o 2 c.args.self.m) (no_rest _ c.if-odd.false) (turn_below s p.long p.ranged _ p.told),
       radix_positive s p.long p.ranged _ p.told,
     )
 
