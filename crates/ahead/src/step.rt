@@ -71,12 +71,13 @@ impl Walk {
         requires { DigitToMove (walk_as self) k }
         ensures { stepped_as result ≡ move_of (walk_as self) k (producer_as left) }
     {
+        let radices = self.radices;
         let mut word = self.word;
         let mut downs = self.downs;
         let i = usize::from(k) - 1;
         let a = word[i];
         let down = downs[i];
-        let to = digit::advanced(self.radices[i], a, down);
+        let to = digit::advanced(radices[i], a, down);
         word[i] = to.digit;
         downs[i] = to.down;
         let walk = Walk {
