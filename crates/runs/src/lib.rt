@@ -24,7 +24,13 @@ fn run_moves(walk: Walk, t: u64, out: &mut [u8]) -> Result<Running, Refusal>
 }
 
 // At most t moves of a fresh walk by the buffered engine.
-pub fn walk_moves(radices: &[u8], capacity: usize, t: u64, out: &mut [u8]) -> Result<Running, Refusal>
+#[tactic(auto, unfolding(runs_theory::specs::MoveCalls::walk_moves_call))]
+pub fn walk_moves(
+    radices: &[u8],
+    capacity: usize,
+    t: u64,
+    out: &mut [u8],
+) -> Result<Running, Refusal>
     ensures { moves_as result out.new ≡ walk_moves_call radices.now capacity t out.old }
 {
     let closed = Walk::closed();
@@ -36,6 +42,7 @@ pub fn walk_moves(radices: &[u8], capacity: usize, t: u64, out: &mut [u8]) -> Re
 }
 
 // The same of a walk that is picked up at a word (a setting).
+#[tactic(auto, unfolding(runs_theory::specs::MoveCalls::resumed_moves_call))]
 pub fn resumed_moves(
     radices: &[u8],
     capacity: usize,
@@ -55,6 +62,7 @@ pub fn resumed_moves(
 }
 
 // At most t moves of a fresh game by the disk engine.
+#[tactic(auto, unfolding(runs_theory::specs::MoveCalls::disk_moves_call))]
 pub fn disk_moves(radices: &[u8], t: u64, out: &mut [u8]) -> Result<Running, Refusal>
     ensures { moves_as result out.new ≡ disk_moves_call radices.now t out.old }
 {

@@ -1,6 +1,5 @@
 -- `two_pass::all_below` meets its contract: after i turns it has tested the slowest i digits. Assumes nothing.
 use mathlib.Core.Path.{refl}
-use native.Mathlib.Omega.{arith}
 use Rattle.gray_theory.specs.Words.{is_word}
 use Rattle.gray_theory.proofs.Ranking.{below_more}
 use Rattle.two_pass.proofs.all_below.Goals as goal
