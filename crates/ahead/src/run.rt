@@ -1,23 +1,23 @@
 // A run of moves, on arrays of its own (crate `stretch`).
-ghost use Rattle.std.specs.Prelude.{◌≡◌, true, cond, eqb};
+ghost use Rattle.std.specs.Prelude.{◌≡◌, true, cond, eqb, Ok};
 ghost use Rattle.gray_theory.specs.RunCalls.{nothing, end};
 ghost use Rattle.gray.specs.Enums.{running_as};
 ghost use Rattle.ahead_theory.specs.States.{in_range};
 ghost use Rattle.ahead_theory.specs.Calls.{run_of};
+ghost use Rattle.stretch.specs.Stages.{stop_number};
 ghost use Rattle.ahead.specs.Structs.{walk_as, ran_as};
-ghost use Rattle.ahead.specs.Stretches.{Loadable, LoadedOne, Wide, Loaded, CounterFits, CounterBack, WordFits, WordBack, Unloadable, Unloaded, Part, Callable, Calls, Room, outcome_of, stop_by};
+ghost use Rattle.ahead.specs.Stretches.{Loadable, LoadedOne, Wide, Loaded, CounterFits, CounterBack, WordFits, WordBack, Unloadable, Unloaded, Callable, Calls, Room, outcome_of, stop_by};
 
-use super::{Producer, Progress, Ran, Walk, min, to_go, wide};
-use gray::{CAPACITY, Counted, Running};
-use stretch::Stage;
+use super::{Producer, Progress, Walk, to_go};
+use gray::{CAPACITY, Refusal, Running};
+use stretch::{Stage, Stop};
 
-// Calls of a run: the state after them, how many moved, and what stopped them: nothing (0), the end of the walk (1), or a dry
-// call (2).
+// Calls of a run: the state after them, how many moved, and what stopped them, if anything did.
 #[derive(Clone, Copy)]
 struct Called {
     walk: Walk,
     made: usize,
-    stop: u8,
+    stop: Option<Stop>,
 }
 
 // The arrays for one digit that moves, at its place among those, and for the place of the counter with that number.
@@ -49,11 +49,8 @@ fn counter_back(last: usize, tops: &[u8], rest: &[u8], counter: &mut [u8])
     requires { CounterFits last tops.now rest.now counter.old }
     ensures { CounterBack last tops.now rest.now counter.old counter.new }
 {
-    let mut i = 0;
-    while i < last {
-        let place = i + 1;
-        counter[i] = tops[place] - rest[place];
-        i = place;
+    for i in 0..last {
+        counter[i] = tops[i + 1] - rest[i + 1];
     }
 }
 
@@ -71,20 +68,18 @@ fn word_back(
     ensures { WordBack count numbers.now tops.now left.now bytes.now
         word.old downs.old word.new downs.new }
 {
-    let mut i = 0;
-    while i < count {
+    for i in 0..count {
         let place = i + 1;
         let down = digit::move_down(bytes[place]);
-        let d = wide(numbers[i]) - 1;
+        let d = usize::from(numbers[i]) - 1;
         word[d] = to_go(tops[place], left[place], down);
         downs[d] = down;
-        i = place;
     }
 }
 
 // What a run of t moves answers that makes no call or meets an ended walk.
 fn unmoved(t: u64) -> Running
-    ensures { running_as result ≡ outcome_of 0 (cond (eqb t 0) nothing end) }
+    ensures { running_as (Ok result) ≡ outcome_of 0 (cond (eqb t 0) nothing end) }
 {
     if t == 0 {
         return Running::Made(0);
@@ -94,29 +89,14 @@ fn unmoved(t: u64) -> Running
 
 // What a run of t moves answers whose calls were stopped so after so many moves. Fewer than t, though nothing stopped them, are
 // as many as there are before j = N.
-fn outcome(stop: u8, made: u64, t: u64) -> Running
-    ensures { running_as result ≡ outcome_of made (stop_by stop made t) }
+fn outcome(stop: Option<Stop>, made: u64, t: u64) -> Running
+    ensures { running_as (Ok result) ≡ outcome_of made (stop_by (stop_number stop) made t) }
 {
-    if stop == 1 {
-        return Running::Ended(made);
-    }
-    if stop == 2 {
-        return Running::Stopped(made, 10);
-    }
-    if made < t {
-        return Running::Stopped(made, 7);
-    }
-    Running::Made(made)
-}
-
-// The most calls that a stretch makes of those that are left.
-fn part(left: usize) -> usize
-    ensures { Part left result }
-{
-    if left < stretch::CALLS {
-        left
-    } else {
-        stretch::CALLS
+    match stop {
+        Some(Stop::End) => Running::Ended(made),
+        Some(Stop::Dry) => Running::Stopped(made, Refusal::Dry),
+        _ if made < t => Running::Stopped(made, Refusal::State),
+        _ => Running::Made(made),
     }
 }
 
@@ -130,21 +110,26 @@ impl Walk {
         let radices = self.radices;
         let moving = self.moving;
         let numbers = moving.digits;
-        let count = wide(moving.count);
+        let count = usize::from(moving.count);
         let word = self.word;
         let downs = self.downs;
         let producer = self.producer;
         let counter = producer.counter;
-        let mut i = 0;
-        while i < count {
+        for i in 0..count {
             let number = numbers[i];
-            let d = wide(number) - 1;
-            let m = radices[d];
-            let place = i + 1;
+            let d = usize::from(number) - 1;
             load_digit(
-                place, m, counter[i], number, word[d], downs[d], tops, rest, left, bytes,
+                i + 1,
+                radices[d],
+                counter[i],
+                number,
+                word[d],
+                downs[d],
+                tops,
+                rest,
+                left,
+                bytes,
             );
-            i = place;
         }
         let last = count + 1;
         tops[last] = 1;
@@ -167,36 +152,30 @@ impl Walk {
         ensures { Unloaded (walk_as self) tops.now rest.now left.now bytes.now
             entries at made ended (walk_as result) }
     {
-        let radices = self.radices;
         let moving = self.moving;
         let numbers = moving.digits;
-        let count = wide(moving.count);
+        let count = usize::from(moving.count);
         let mut word = self.word;
         let mut downs = self.downs;
         let producer = self.producer;
         let mut counter = producer.counter;
         word_back(count, &numbers, tops, left, bytes, &mut word, &mut downs);
         counter_back(count + 1, tops, rest, &mut counter);
-        let reached = Progress {
-            place: at.place as u8,
-            queued: at.tail as u8,
-            steps: at.steps,
-        };
-        let ahead = Producer {
-            counter: counter,
-            at: reached,
-            queue: entries,
-        };
         Walk {
-            radices: radices,
-            n: self.n,
-            moving: moving,
-            word: word,
-            capacity: self.capacity,
-            downs: downs,
-            ended: ended,
-            producer: ahead,
+            word,
+            downs,
+            ended,
+            producer: Producer {
+                counter,
+                at: Progress {
+                    place: at.place as u8,
+                    queued: at.tail as u8,
+                    steps: at.steps,
+                },
+                queue: entries,
+            },
             moves: self.moves + made,
+            ..self
         }
     }
 
@@ -204,11 +183,11 @@ impl Walk {
     // range only once N moves are made, so that the range is not tested in between.
     fn calls(self, limit: usize, out: &mut [u8]) -> Called
         requires { Callable (walk_as self) limit out.old }
-        ensures { Calls (walk_as self) limit out.old out.new (walk_as result.walk) result.made result.stop }
+        ensures { Calls (walk_as self) limit out.old out.new (walk_as result.walk) result.made (stop_number result.stop) }
     {
         let moving = self.moving;
-        let last = wide(moving.count) + 1;
-        let c = wide(self.capacity);
+        let last = usize::from(moving.count) + 1;
+        let c = usize::from(self.capacity);
         let mut tops = [0u8; stretch::PLACES];
         let mut rest = [0u8; stretch::PLACES];
         let mut left = [0u8; stretch::PLACES];
@@ -218,17 +197,17 @@ impl Walk {
         let mut entries = producer.queue;
         let from = producer.at;
         let mut at = Stage {
-            place: wide(from.place),
-            tail: wide(from.queued),
+            place: usize::from(from.place),
+            tail: usize::from(from.queued),
             steps: from.steps,
         };
         let mut done = 0;
-        let mut stop: u8 = 0;
-        while (done < limit) & (stop == 0) {
+        let mut stop = None;
+        while (done < limit) & stop.is_none() {
             let ran = stretch::run(
                 last,
                 c,
-                part(limit - done),
+                (limit - done).min(stretch::CALLS),
                 &tops,
                 &mut rest,
                 &mut left,
@@ -251,12 +230,12 @@ impl Walk {
             entries,
             at,
             done as u64,
-            stop == 1,
+            stop == Some(Stop::End),
         );
         Called {
-            walk: walk,
+            walk,
             made: done,
-            stop: stop,
+            stop,
         }
     }
 
@@ -265,44 +244,32 @@ impl Walk {
         requires { in_range (walk_as self) ≡ true }
         ensures { Room (walk_as self) result }
     {
-        let n = wide(self.n);
+        let n = usize::from(self.n);
         let radices = self.radices;
         let counted = gray::size(&radices[..n]);
-        let Counted::Size(total) = counted else {
+        let Ok(total) = counted else {
             return 0;
         };
         total - self.moves
     }
 
     // A run of moves: at most t calls, up to the first that does not move. One byte a move in `out`, which has to hold t bytes.
-    pub fn run(self, t: u64, out: &mut [u8]) -> Ran
+    pub fn run(self, t: u64, out: &mut [u8]) -> (Walk, Result<Running, Refusal>)
         ensures { ran_as result out.new ≡ run_of (walk_as self) t out.old }
     {
         if !self.in_range() {
-            return Ran {
-                walk: self,
-                answer: Running::Refused(7),
-            };
+            return (self, Err(Refusal::State));
         }
         if (out.len() as u64) < t {
-            return Ran {
-                walk: self,
-                answer: Running::Refused(9),
-            };
+            return (self, Err(Refusal::Output));
         }
         if (t == 0) | self.ended {
-            return Ran {
-                walk: self,
-                answer: unmoved(t),
-            };
+            return (self, Ok(unmoved(t)));
         }
         let room = self.room();
-        let limit = min(t, room);
+        let limit = t.min(room);
         let called = self.calls(limit as usize, out);
-        let walk = called.walk;
-        Ran {
-            walk: walk,
-            answer: outcome(called.stop, called.made as u64, t),
-        }
+        let answer = outcome(called.stop, called.made as u64, t);
+        (called.walk, Ok(answer))
     }
 }

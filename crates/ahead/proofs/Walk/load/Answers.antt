@@ -39,45 +39,45 @@ bounds-rest-last c =
 
 pub overflow_sub-d : goal.overflow_sub-d
 overflow_sub-d c =
-    let l : c.loop-i.i < c.args.self.moving.count = omega (arith, c.wide-count.ensures.0) in
+    let l : c.loop-i.i < c.args.self.moving.count = omega (arith, c.from-count.ensures) in
     let n : (1 ≤ get_or c.args.self.moving.digits c.loop-i.i 0) × (get_or c.args.self.moving.digits c.loop-i.i 0 ≤ 48) =
     number_fits _ c.requires.0 (lengths (goal.at.overflow_sub-d c).Start) c.loop-i.i l in
     omega arith
 
 pub bounds-radices-d : goal.bounds-radices-d
 bounds-radices-d c =
-    let l : c.loop-i.i < c.args.self.moving.count = omega (arith, c.wide-count.ensures.0) in
+    let l : c.loop-i.i < c.args.self.moving.count = omega (arith, c.from-count.ensures) in
     let n : (1 ≤ get_or c.args.self.moving.digits c.loop-i.i 0) × (get_or c.args.self.moving.digits c.loop-i.i 0 ≤ 48) =
     number_fits _ c.requires.0 (lengths (goal.at.bounds-radices-d c).Start) c.loop-i.i l in
     omega arith
 
 pub bounds-word-d : goal.bounds-word-d
 bounds-word-d c =
-    let l : c.loop-i.i < c.args.self.moving.count = omega (arith, c.wide-count.ensures.0) in
+    let l : c.loop-i.i < c.args.self.moving.count = omega (arith, c.from-count.ensures) in
     let n : (1 ≤ get_or c.args.self.moving.digits c.loop-i.i 0) × (get_or c.args.self.moving.digits c.loop-i.i 0 ≤ 48) =
     number_fits _ c.requires.0 (lengths (goal.at.bounds-word-d c).Start) c.loop-i.i l in
     omega arith
 
 pub bounds-downs-d : goal.bounds-downs-d
 bounds-downs-d c =
-    let l : c.loop-i.i < c.args.self.moving.count = omega (arith, c.wide-count.ensures.0) in
+    let l : c.loop-i.i < c.args.self.moving.count = omega (arith, c.from-count.ensures) in
     let n : (1 ≤ get_or c.args.self.moving.digits c.loop-i.i 0) × (get_or c.args.self.moving.digits c.loop-i.i 0 ≤ 48) =
     number_fits _ c.requires.0 (lengths (goal.at.bounds-downs-d c).Start) c.loop-i.i l in
     omega arith
 
 pub load_digit-requires : goal.load_digit-requires
 load_digit-requires c =
-    let l : c.loop-i.i < c.args.self.moving.count = omega (arith, c.wide-count.ensures.0) in
-    (loadable _ c.requires.0 (lengths (goal.at.load_digit-requires c).Start) _ l _ c.wide-d.ensures.0, c.loop-i.invariant.1.wide)
+    let l : c.loop-i.i < c.args.self.moving.count = omega (arith, c.from-count.ensures) in
+    (loadable _ c.requires.0 (lengths (goal.at.load_digit-requires c).Start) _ l _ c.from-d.ensures, c.loop-i.invariant.1.wide)
 
 pub loop-i-preserved : goal.loop-i-preserved
 loop-i-preserved c =
-    let l : c.loop-i.i < c.args.self.moving.count = omega (arith, c.wide-count.ensures.0) in
-    (omega arith, loaded_more _ c.requires.0 (lengths (goal.at.loop-i-preserved c).Start) _ l _ _ _ _ _ _ _ _ _ c.wide-d.ensures.0 c.loop-i.invariant.1 c.load_digit.ensures)
+    let l : c.loop-i.i < c.args.self.moving.count = omega (arith, c.from-count.ensures) in
+    (omega arith, loaded_more _ c.requires.0 (lengths (goal.at.loop-i-preserved c).Start) _ l _ _ _ _ _ _ _ _ _ c.from-d.ensures c.loop-i.invariant.1 c.load_digit.ensures)
 
 pub overflow_sub-rest : goal.overflow_sub-rest
-overflow_sub-rest c = counter_last _ c.requires.0 (lengths (goal.at.overflow_sub-rest c).Start) _ c.wide-count.ensures.0
+overflow_sub-rest c = counter_last _ c.requires.0 (lengths (goal.at.overflow_sub-rest c).Start) _ c.from-count.ensures
 
 pub returns : goal.returns
 returns c =
-    loaded_all _ c.requires.0 (lengths (goal.at.returns c).Start) _ _ _ _ _ _ c.wide-count.ensures.0 c.loop-i-test.false c.loop-i.invariant.1
+    loaded_all _ c.requires.0 (lengths (goal.at.returns c).Start) _ _ _ _ _ _ c.from-count.ensures c.loop-i-test.false c.loop-i.invariant.1

@@ -1,10 +1,6 @@
 -- `ahead::run::counter_back` meets its contract: after i turns the first i places are given back. Assumes nothing.
-use Prim.Native.Nat.{◌-◌}
 use Rattle.ahead.proofs.Loads.{CounterTo}
 use Rattle.ahead.proofs.run.counter_back.Given as goal
 
 abbrev pub invariant-loop-i : goal.invariant-loop-i
 invariant-loop-i l = CounterTo l.last l.tops l.rest l.initial.counter l.i l.counter
-
-abbrev pub decreases-loop-i : goal.decreases-loop-i
-decreases-loop-i l = l.last - l.i

@@ -1,11 +1,7 @@
 -- `ahead::run::word_back` meets its contract: after i turns the first i of the digits that move are given back. Assumes
 -- nothing.
-use Prim.Native.Nat.{◌-◌}
 use Rattle.ahead.proofs.Loads.{WordTo}
 use Rattle.ahead.proofs.run.word_back.Given as goal
 
 abbrev pub invariant-loop-i : goal.invariant-loop-i
 invariant-loop-i l = WordTo l.count l.numbers l.tops l.left l.bytes l.initial.word l.initial.downs l.i l.word l.downs
-
-abbrev pub decreases-loop-i : goal.decreases-loop-i
-decreases-loop-i l = l.count - l.i
