@@ -4,7 +4,7 @@
 #![tactic(auto)]
 
 // The lines of `walk`. `Sizes` has n and N, `Moved` the rank, the digit (sluice) and whether it went down, `End` N − 1.
-#[derive(Clone, Copy)]
+#[derive(Clone, Copy, Debug, PartialEq, Eq)]
 pub enum Line {
     Unread,
     Refused(u8),

@@ -1,7 +1,7 @@
--- `text::put_number` meets its contract: 2^64 is below 10^20. Assumes nothing.
+-- `text::Text::put_number` meets its contract: 2^64 is below 10^20. Assumes nothing.
 use native.Mathlib.Omega.{arith}
 use Rattle.text_theory.proofs.Numerals.{decimal-length}
-use Rattle.text.proofs.put_number.Goals as goal
+use Rattle.text.proofs.Text.put_number.Goals as goal
 
 pub put_decimal-requires : goal.put_decimal-requires
 put_decimal-requires c = omega (arith, decimal-length 19 c.args.n (omega arith))
