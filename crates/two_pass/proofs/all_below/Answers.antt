@@ -6,8 +6,8 @@ use Rattle.gray_theory.proofs.Ranking.{below_more}
 use Rattle.two_pass.proofs.all_below.Goals as goal
 
 pub loop-i-init : goal.loop-i-init
-loop-i-init c = unfold is_word in (omega arith, refl)
+loop-i-init c = unfold is_word in refl
 
 pub loop-i-preserved : goal.loop-i-preserved
 loop-i-preserved c =
-    (omega arith, below_more _ _ c.requires _ _ c.loop-i-test.true c.loop-i.invariant.1)
+    below_more _ _ c.requires _ _ c.loop-i-test.true c.loop-i.invariant
