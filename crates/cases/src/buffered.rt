@@ -1,38 +1,38 @@
 // The calls of the buffered engine, and changes of its state.
 
-use crate::print::{Ran, print_lent, print_opening, print_stepping, print_walk};
+use crate::print::{Ran, Stepped, print_answer, print_lent, print_opening, print_walk};
 use crate::words::{Given, narrow};
 use ahead::Walk;
 
 fn step(walk: &mut Walk) {
-    let stepped = walk.step();
-    *walk = stepped.walk;
-    print_stepping(stepped.answer);
+    let (next, answer) = walk.step();
+    *walk = next;
+    print_answer(answer.map(Stepped));
     print_walk(walk);
 }
 
 fn open(walk: &mut Walk, radices: &[u8], capacity: u64) {
-    let opened = walk.open(radices, capacity as usize);
-    *walk = opened.walk;
-    print_opening(opened.answer);
+    let (next, answer) = walk.open(radices, capacity as usize);
+    *walk = next;
+    print_opening(answer);
 }
 
 // The capacity is the first of the numbers, and the word's digits are the others.
 fn resume(walk: &mut Walk, radices: &[u8], numbers: &[u64]) -> Option<()> {
     let (&capacity, digits) = numbers.split_first()?;
     let mut word = [0u8; 64];
-    let resumed = walk.resume(radices, capacity as usize, narrow(digits, &mut word)?);
-    *walk = resumed.walk;
-    print_opening(resumed.answer);
+    let (next, answer) = walk.resume(radices, capacity as usize, narrow(digits, &mut word)?);
+    *walk = next;
+    print_opening(answer);
     print_walk(walk);
     Some(())
 }
 
 pub fn run(walk: &mut Walk, moves: u64, lent: u64) {
     print_lent(lent, |out| {
-        let ran = walk.run(moves, out);
-        *walk = ran.walk;
-        Ok(Ran(ran.answer))
+        let (next, answer) = walk.run(moves, out);
+        *walk = next;
+        answer.map(Ran)
     });
     print_walk(walk);
 }

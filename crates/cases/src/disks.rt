@@ -1,27 +1,27 @@
 // The calls of the disk engine, and changes of its state.
 
-use crate::print::{Ran, print_lent, print_opening, print_stepping, print_towers};
+use crate::print::{Ran, Stepped, print_answer, print_lent, print_opening, print_towers};
 use crate::words::Given;
 use towers::Towers;
 
 fn step(towers: &mut Towers) {
-    let stepped = towers.step();
-    *towers = stepped.towers;
-    print_stepping(stepped.answer);
+    let (next, answer) = towers.step();
+    *towers = next;
+    print_answer(answer.map(Stepped));
     print_towers(towers);
 }
 
 fn open(towers: &mut Towers, radices: &[u8]) {
-    let opened = towers.open(radices);
-    *towers = opened.towers;
-    print_opening(opened.answer);
+    let (next, answer) = towers.open(radices);
+    *towers = next;
+    print_opening(answer);
 }
 
 pub fn run(towers: &mut Towers, moves: u64, lent: u64) {
     print_lent(lent, |out| {
-        let ran = towers.run(moves, out);
-        *towers = ran.towers;
-        Ok(Ran(ran.answer))
+        let (next, answer) = towers.run(moves, out);
+        *towers = next;
+        answer.map(Ran)
     });
     print_towers(towers);
 }

@@ -1,35 +1,23 @@
 // The calls that no engine is for.
 
-use crate::print::{Items, direction, print, print_answer, print_lent, written};
+use crate::print::{Items, direction, print, print_answer, print_lent};
 use crate::words::{Given, narrow};
-use gray::{Counted, Ranked};
-use movelog::Reading;
 
 fn size_case(radices: &[u8]) {
     let counted = gray::size(radices);
-    print_answer(match counted {
-        Counted::Size(total) => Ok(total),
-        Counted::Refused(k) => Err(k),
-    });
-    print(format_args!("; number {}", counted.number()));
+    print_answer(counted);
+    print(format_args!("; number {}", gray::number(counted)));
 }
 
 fn rank_case(radices: &[u8], numbers: &[u64]) -> Option<()> {
     let mut word = [0u8; 64];
-    let ranked = gray::rank(radices, narrow(numbers, &mut word)?);
-    print_answer(match ranked {
-        Ranked::Rank(r) => Ok(r),
-        Ranked::Refused(k) => Err(k),
-    });
+    print_answer(gray::rank(radices, narrow(numbers, &mut word)?));
     Some(())
 }
 
 // What a log is read as, and the part of it that holds the moves.
 fn read_case(log: &[u8]) {
-    print_answer(match movelog::read(log) {
-        Reading::Moves(t) => Ok(t),
-        Reading::Refused(k) => Err(k),
-    });
+    print_answer(movelog::read(log));
     print(format_args!(";{}", Items(movelog::moves(log))));
 }
 
@@ -54,14 +42,14 @@ pub fn call(name: &[u8], given: Given) -> Option<()> {
         (b"read", []) => read_case(list),
         (b"up", []) => move_case(list, false)?,
         (b"down", []) => move_case(list, true)?,
-        (b"word", &[rank, lent]) => print_lent(lent, |out| written(gray::word(list, rank, out))),
+        (b"word", &[rank, lent]) => print_lent(lent, |out| gray::word(list, rank, out)),
         (b"list", &[from, count, lent]) => {
-            print_lent(lent, |out| written(lister::list(list, from, count, out)))
+            print_lent(lent, |out| lister::list(list, from, count, out))
         }
         (b"write", &[capacity, moves, lent]) => {
             print_lent(
                 lent,
-                |out| written(movelog::write(list, capacity as usize, moves, out)),
+                |out| movelog::write(list, capacity as usize, moves, out),
             )
         }
         _ => return None,

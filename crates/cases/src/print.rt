@@ -2,7 +2,7 @@
 
 use ahead::Walk;
 use digit::MovingDigits;
-use gray::{Opening, Running, Stepping, Written};
+use gray::{Refusal, Running, Stepping};
 use std::fmt;
 use std::fmt::Write;
 use towers::Towers;
@@ -107,27 +107,29 @@ pub fn print_towers(towers: &Towers) {
 }
 
 // An answer, or the refusal's number.
-pub fn print_answer<T: fmt::Display + Drop>(answer: Result<T, u8>) {
+pub fn print_answer<T: fmt::Display + Drop>(answer: Result<T, Refusal>) {
     match answer {
         Ok(value) => print(format_args!(": {value}")),
-        Err(refusal) => print(format_args!(": refused {refusal}")),
+        Err(refusal) => print(format_args!(": refused {}", u8::from(refusal))),
     }
 }
 
-pub fn print_opening(answer: Opening) {
-    print_answer(match answer {
-        Opening::Open => Ok("open"),
-        Opening::Refused(k) => Err(k),
-    });
+pub fn print_opening(answer: Result<(), Refusal>) {
+    print_answer(answer.map(|()| "open"));
 }
 
-pub fn print_stepping(answer: Stepping) {
-    match answer {
-        Stepping::Moved(digit, down, notch) => {
-            print(format_args!(": moved {digit} {} to {notch}", direction(down)))
+// The words for what a step and a run answer.
+#[derive(Clone, Copy)]
+pub struct Stepped(pub Stepping);
+
+impl fmt::Display for Stepped {
+    fn fmt<W: fmt::Write>(&self, f: &mut fmt::Formatter<W>) -> fmt::Result {
+        match self.0 {
+            Stepping::Moved(digit, down, notch) => {
+                write!(f, "moved {digit} {} to {notch}", direction(down))
+            }
+            Stepping::End => write!(f, "end"),
         }
-        Stepping::End => print(": end"),
-        Stepping::Refused(k) => print_answer::<u8>(Err(k)),
     }
 }
 
@@ -137,23 +139,20 @@ pub struct Ran(pub Running);
 impl fmt::Display for Ran {
     fn fmt<W: fmt::Write>(&self, f: &mut fmt::Formatter<W>) -> fmt::Result {
         match self.0 {
-            Running::Made(t) => write!(f, "made {t}"),
-            Running::Ended(k) => write!(f, "ended {k}"),
-            Running::Stopped(k, x) => write!(f, "stopped {k} {x}"),
-            Running::Refused(x) => write!(f, "refused {x}"),
+            Running::Made(moves) => write!(f, "made {moves}"),
+            Running::Ended(moves) => write!(f, "ended {moves}"),
+            Running::Stopped(moves, refusal) => {
+                write!(f, "stopped {moves} {}", u8::from(refusal))
+            }
         }
     }
 }
 
-pub fn written(answer: Written) -> Result<usize, u8> {
-    match answer {
-        Written::Bytes(n) => Ok(n),
-        Written::Refused(k) => Err(k),
-    }
-}
-
 // Lends a call so many bytes of 9, 256 at the most, and prints what it answers and the bytes afterwards.
-pub fn print_lent<T: fmt::Display + Drop, F: FnOnce(&mut [u8]) -> Result<T, u8>>(lent: u64, call: F)
+pub fn print_lent<T: fmt::Display + Drop, F: FnOnce(&mut [u8]) -> Result<T, Refusal>>(
+    lent: u64,
+    call: F,
+)
     requires { F.IsAlwaysCallable call }
 {
     let mut out = [9u8; 256];

@@ -35,17 +35,10 @@ where
         if room.len() <= count {
             return None;
         }
-        room[count] = T::try_from(number(word)?).ok()?;
+        room[count] = T::try_from(reader::number(word)?).ok()?;
         count += 1;
     }
     room.get(..count)
-}
-
-fn number(word: &[u8]) -> Option<u64> {
-    match reader::number(word) {
-        reader::Parsed::Number(value) => Some(value),
-        reader::Parsed::Unread => None,
-    }
 }
 
 // The same numbers as bytes, where all of them are and there is room for them.
