@@ -16,7 +16,8 @@ use text_theory::Line;
 // The most settings that are walked.
 const MOST: u64 = 4096;
 
-// A line as it is made, one piece behind the other: the first `len` bytes.
+// A line as it is made, one piece behind the other: the first `len` bytes. No String, since its memory is fixed; and no Display,
+// since the clauses of `write!` don't rule out an error, as `write_line` must.
 #[derive(Clone, Copy)]
 struct Text {
     bytes: [u8; 256],
@@ -85,10 +86,9 @@ impl Text {
         ensures put { Put (cond first [] (ascii ".") ++ decimal notch) self.old self.new }
         ensures upper_bound { self.new.len ≤ self.old.len + 4 }
     {
-        if first {
-            return self.put_decimal(u64::from(notch));
+        if !first {
+            self.put(b".");
         }
-        self.put(b".");
         self.put_decimal(u64::from(notch));
     }
 
