@@ -117,6 +117,7 @@ impl Text {
     }
 
     // A word and a number behind it.
+    #[tactic(auto, using(crate::proofs::Putting::and_then))]
     fn put_counted(&mut self, word: &[u8], n: u64)
         requires { self.old.len + length word.now + 20 ≤ 256 }
         ensures put { Put (word.now ++ decimal n) self.old self.new }
@@ -127,6 +128,7 @@ impl Text {
     }
 
     // A word and a number, as a line.
+    #[tactic(auto, using(crate::proofs::Putting::and_then))]
     fn put_named(&mut self, name: &[u8], n: u64)
         requires { (length name.now ≤ 8) × (self.old.len + 30 ≤ 256) }
         ensures put { Put (name.now ++ decimal n ++ ascii "\n") self.old self.new }
@@ -147,6 +149,7 @@ impl Text {
     }
 
     // A rank and its setting, with which each line of the walk begins.
+    #[tactic(auto, using(crate::proofs::Putting::and_then))]
     fn put_ranked(&mut self, rank: u64, setting: &[u8])
         requires { (length setting.now ≤ 48) × (self.old.len + 213 ≤ 256) }
         ensures put { Put (decimal rank ++ ascii " " ++ setting_text setting.now) self.old self.new }
