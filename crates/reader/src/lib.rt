@@ -21,6 +21,7 @@ pub enum Phase {
 const KEPT: usize = DIGITS + 1;
 
 // The reader of the line of counts: the counts so far, and the bytes of the field that is being read.
+// Arrays with `kept` and `digits` beside them, and no Vec: its memory is fixed.
 #[derive(Clone, Copy, Debug, PartialEq, Eq)]
 pub struct Reader {
     pub counts: [u8; KEPT],
@@ -31,6 +32,7 @@ pub struct Reader {
 }
 
 // What a reader has found: that the line goes on, how many counts are kept once it has ended, or that it is no line of counts.
+// A case more than an Option has: a line that goes on is read further, one that is no line of counts isn't.
 #[derive(Clone, Copy, Debug, PartialEq, Eq)]
 pub enum Found {
     More,

@@ -22,7 +22,7 @@ use Rattle.text.specs.declared.Text.{Text}
 use Rattle.text.specs.Stages.{text_of, Put}
 
 -- nothing put
-put-none : (t : Text) → Put [] t t
+pub put-none : (t : Text) → Put [] t t
 put-none t = record { stands = sym (append-nil (text_of t)); ends = omega arith }
 
 -- one piece after another

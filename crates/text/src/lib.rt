@@ -16,7 +16,8 @@ use text_theory::Line;
 // The most settings that are walked.
 const MOST: u64 = 4096;
 
-// A line as it is made, one piece behind the other: the first `len` bytes.
+// A line as it is made, one piece behind the other: the first `len` bytes. No String, since its memory is fixed; and no Display,
+// since the clauses of `write!` don't rule out an error, as `write_line` must.
 #[derive(Clone, Copy)]
 struct Text {
     bytes: [u8; 256],
@@ -85,10 +86,9 @@ impl Text {
         ensures put { Put (cond first [] (ascii ".") ++ decimal notch) self.old self.new }
         ensures upper_bound { self.new.len ≤ self.old.len + 4 }
     {
-        if first {
-            return self.put_decimal(u64::from(notch));
+        if !first {
+            self.put(b".");
         }
-        self.put(b".");
         self.put_decimal(u64::from(notch));
     }
 
@@ -117,6 +117,7 @@ impl Text {
     }
 
     // A word and a number behind it.
+    #[tactic(auto, using(crate::proofs::Putting::and_then))]
     fn put_counted(&mut self, word: &[u8], n: u64)
         requires { self.old.len + length word.now + 20 ≤ 256 }
         ensures put { Put (word.now ++ decimal n) self.old self.new }
@@ -127,6 +128,7 @@ impl Text {
     }
 
     // A word and a number, as a line.
+    #[tactic(auto, using(crate::proofs::Putting::and_then))]
     fn put_named(&mut self, name: &[u8], n: u64)
         requires { (length name.now ≤ 8) × (self.old.len + 30 ≤ 256) }
         ensures put { Put (name.now ++ decimal n ++ ascii "\n") self.old self.new }
@@ -147,6 +149,7 @@ impl Text {
     }
 
     // A rank and its setting, with which each line of the walk begins.
+    #[tactic(auto, using(crate::proofs::Putting::and_then))]
     fn put_ranked(&mut self, rank: u64, setting: &[u8])
         requires { (length setting.now ≤ 48) × (self.old.len + 213 ≤ 256) }
         ensures put { Put (decimal rank ++ ascii " " ++ setting_text setting.now) self.old self.new }
