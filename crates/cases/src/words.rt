@@ -1,5 +1,7 @@
 // The parts of a line: words, and lists of numbers.
 
+const SEPARATORS: &[u8] = b" ,";
+
 // A text up to the first of some bytes, and from it on.
 pub fn split_before<'a>(text: &'a [u8], stops: &[u8]) -> (&'a [u8], &'a [u8]) {
     match text.iter().position(|byte| stops.contains(byte)) {
@@ -8,9 +10,9 @@ pub fn split_before<'a>(text: &'a [u8], stops: &[u8]) -> (&'a [u8], &'a [u8]) {
     }
 }
 
-// A name or a number ends at a space, a comma or the end.
+// A line's first word, which ends at a space, a comma or the end, and the rest of the line from there.
 pub fn split_word(text: &[u8]) -> (&[u8], &[u8]) {
-    split_before(text, b" ,")
+    split_before(text, SEPARATORS)
 }
 
 // A name is known by its last eight letters, without the zeros that they begin with.
@@ -28,10 +30,8 @@ where
     T::Error: Drop,
 {
     let mut count = 0;
-    for word in text.split(|byte| matches!(byte, b' ' | b',')) {
-        if word.is_empty() {
-            continue;
-        }
+    let words = text.split(|byte| SEPARATORS.contains(byte));
+    for word in words.filter(|word| !word.is_empty()) {
         if room.len() <= count {
             return None;
         }
