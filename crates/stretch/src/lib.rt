@@ -104,7 +104,7 @@ fn work(
     at
 }
 
-// The carries of a dry call, two at most, are undone.
+// The carries of a dry call, two at most, are undone: two stores in two tests, which a loop over from..to would not bound.
 fn undo(rest: &mut [u8], from: usize, to: usize)
     requires { (length rest.old ≡ 256) × (to ≤ 256) }
     ensures { rest.new ≡ backed rest.old from to }
@@ -269,7 +269,8 @@ fn run_calls(
     }
 }
 
-// The calls of a stretch, from the queue's entries, the oldest first, to those that it leaves.
+// The calls of a stretch, from the queue's entries, the oldest first, to those that it leaves. (It takes slices one by one, and no
+// struct of arrays: it promises what it does with those that are no run's, too.)
 pub fn run(
     last: usize,
     c: usize,
