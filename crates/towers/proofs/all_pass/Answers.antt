@@ -13,9 +13,6 @@ use Rattle.towers.proofs.all_pass.Goals as goal
 pub loop-byte-init : goal.loop-byte-init
 loop-byte-init g c = (refl, λ test tells. tested_none _)
 
-pub overflow_add-number : goal.overflow_add-number
-overflow_add-number g c = omega arith
-
 pub loop-byte-preserved : goal.loop-byte-preserved
 loop-byte-preserved g c =
     let a = c.args in (
