@@ -36,12 +36,11 @@ returns-in_err-value c =
 pub loop-byte-preserved : goal.loop-byte-preserved
 loop-byte-preserved c =
     let tens = c.in_ok-checked_mul.ensures in
-    let sum = c.in_ok-value.ensures in
-    (
+    let sum = c.in_ok-value.ensures in (
       omega arith,
       rw (sum.1, tens.1)
-      (turn c.args.bytes.now _ c.loop-byte.byte-index c.loop-byte-test.true c.loop-byte.invariant.1 c.in_ok-d.d
-      (sym c.digit.ensures ∙ c.in_ok-d.was)),
+          (turn c.args.bytes.now _ c.loop-byte.byte-index c.loop-byte-test.true c.loop-byte.invariant.1 c.in_ok-d.d
+          (sym c.digit.ensures ∙ c.in_ok-d.was)),
     )
 
 pub returns : goal.returns
