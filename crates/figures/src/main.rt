@@ -15,9 +15,9 @@ use towers::Towers;
 // How many words agreed with their rank, with the word of their rank and with the lister's.
 #[derive(Clone, Copy)]
 struct Tally {
-    ranks: u64,
-    words: u64,
-    lists: u64,
+    ranks: usize,
+    words: usize,
+    lists: usize,
 }
 
 // What agreed in a walk, and whether its last call answered the end.
@@ -87,19 +87,23 @@ fn compare(radices: &[u8], words: &[u8], listed: &[u8], whole: bool) -> Tally
     requires { 0 < length radices.now }
 {
     let n = radices.len();
-    let mut agreed = Tally {
-        ranks: 0,
-        words: 0,
-        lists: 0,
-    };
-    let mut rank = 0;
-    for (word, other) in words.chunks_exact(n).zip(listed.chunks_exact(n)) {
-        agreed.ranks += u64::from(gray::rank(radices, word) == Ok(rank));
-        agreed.words += u64::from(is_word_of(radices, word, rank));
-        agreed.lists += u64::from(whole & (word == other));
-        rank += 1;
+    Tally {
+        ranks: words
+            .chunks_exact(n)
+            .enumerate()
+            .filter(|(rank, word)| gray::rank(radices, *word) == Ok(*rank as u64))
+            .count(),
+        words: words
+            .chunks_exact(n)
+            .enumerate()
+            .filter(|(rank, word)| is_word_of(radices, *word, *rank as u64))
+            .count(),
+        lists: words
+            .chunks_exact(n)
+            .zip(listed.chunks_exact(n))
+            .filter(|(word, other)| whole && *word == *other)
+            .count(),
     }
-    agreed
 }
 
 // Here too the lent bytes are no digits before the call.
@@ -109,9 +113,9 @@ fn hold_words(radices: &[u8], words: &[u8], total: u64)
     let mut listed = [9u8; 384];
     let written = lister::list(radices, 0, total, &mut listed);
     let agreed = compare(radices, words, &listed, written == Ok(words.len()));
-    print_line(b"rank ", agreed.ranks);
-    print_line(b"word ", agreed.words);
-    print_line(b"list ", agreed.lists);
+    print_line(b"rank ", agreed.ranks as u64);
+    print_line(b"word ", agreed.words as u64);
+    print_line(b"list ", agreed.lists as u64);
 }
 
 // Whether a setting, with digit 1 first, is the word and zeros past its digits.
@@ -162,7 +166,8 @@ fn walk(opened: Engine, n: usize, words: &[u8]) -> Walked
         moves: 0,
         ended: false,
     };
-    let mut others = words.chunks_exact(n).skip(1);
+    let mut others = words.chunks_exact(n);
+    others.next();
     for word in words.chunks_exact(n) {
         walked.settings += u64::from(is_setting_of(engine.setting(), word));
         let (next, answer) = engine.step();
@@ -198,7 +203,13 @@ fn hold_engines(radices: &[u8], words: &[u8])
 {
     let n = radices.len();
     let (buffered, opened) = Walk::closed().open(radices, n.div_ceil(2));
-    hold_engine(b"buffered engine: ", opened, Engine::of_walk(buffered), n, words);
+    hold_engine(
+        b"buffered engine: ",
+        opened,
+        Engine::of_walk(buffered),
+        n,
+        words,
+    );
     let (disks, opened) = Towers::closed().open(radices);
     hold_engine(b"disk engine: ", opened, Engine::of_towers(disks), n, words);
 }

@@ -1,6 +1,7 @@
 // One line of the harbour file.
 
 ghost use Rattle.std.specs.Prelude.{◌≡◌, true, ◌+◌, ◌≤◌};
+ghost use Rattle.std.specs.Result.{result_ok};
 ghost use Rattle.tides_theory.specs.Lines.{is_line};
 ghost use Rattle.tides.specs.Stages.{date_marks, time_marks, date_ones, time_ones, water_of, pair_of, fields_of, among as amongOf};
 ghost use Rattle.tides.specs.Stages.{leap_day, length_of, lacking, date_ranged, time_ranged, start_in, time_in};
@@ -48,14 +49,16 @@ struct Fields {
     minute: u64,
 }
 
-impl Water {
-    fn of(letter: u8) -> Option<Water>
-        ensures { result ≡ water_of letter }
-    {
+impl TryFrom<u8> for Water {
+    type Error = ();
+
+    ghost try_from_gives = { λ letter water. result_ok water ≡ water_of letter };
+
+    fn try_from(letter: u8) -> Result<Water, ()> {
         match letter {
-            b'H' => Some(Water::High),
-            b'L' => Some(Water::Low),
-            _ => None,
+            b'H' => Ok(Water::High),
+            b'L' => Ok(Water::Low),
+            _ => Err(()),
         }
     }
 }
@@ -258,7 +261,7 @@ pub(crate) fn read_line(line: &Line, known: Day) -> Option<Tide>
     if !time_marked(line) || !time_digits(line) {
         return None;
     }
-    let water = Water::of(line[17])?;
+    let water = Water::try_from(line[17]).ok()?;
     let fields = Fields::of(line);
     if !fields.time_in_range() {
         return None;

@@ -29,7 +29,7 @@ date c = day_read _ _ (sym c.in_ok-day.ensures)
 -- and the letter
 letter : (c : In_ok-water) → (is_letter (get_or c.args.line.now 17 0) ≡ true)
     × (c.in_ok-water.water ≡ water (eqb (get_or c.args.line.now 17 0) high_letter))
-letter c = water_read _ _ (sym c.in_ok-water.ensures)
+letter c = water_read _ _ (sym (c.in_ok-water.ensures.value ∙ c.try_from.ensures))
 
 -- the time is in its range,
 range : (c : Else-not-time_in_range) → time_ranged (fields_of c.args.line.now) ≡ true
@@ -50,7 +50,7 @@ returns-then-not-time_marked c =
 
 pub returns-in_err-water : goal.returns-in_err-water
 returns-in_err-water c =
-    c.from_residual-in_err-water.ensures ∙ line_unread c.args.line.now _ (λ p. p.letter) (no_water _ (sym c.in_err-water.ensures))
+    c.from_residual-in_err-water.ensures ∙ line_unread c.args.line.now _ (λ p. p.letter) (no_water _ (sym (c.in_err-water.ensures.value ∙ c.try_from.ensures)))
 
 pub returns-then-not-time_in_range : goal.returns-then-not-time_in_range
 returns-then-not-time_in_range c =

@@ -1,9 +1,9 @@
--- `tides::line::Water::of` meets its contract. Assumes nothing.
+-- `tides::line::WaterTryFromU8::try_from` meets its contract. Assumes nothing.
 use mathlib.Core.Path.{refl}
 use Rattle.std.proofs.Common.{rules}
 use borrow.Author.Tests.{ne_eqb}
 use Rattle.tides.specs.Stages.{water_of}
-use Rattle.tides.proofs.line.Water.of.Goals as goal
+use Rattle.tides.proofs.line.WaterTryFromU8.try_from.Goals as goal
 
 pub returns-in-72 : goal.returns-in-72
 unfolding water_of
