@@ -36,7 +36,7 @@
 use ahead::Walk;
 use print::{print, print_bytes};
 use towers::Towers;
-use words::{Given, known, read_list, split_before, split_word};
+use words::{Given, known, read_list, split_word};
 
 mod buffered;
 mod disks;
