@@ -83,7 +83,7 @@ pub fn digits_in_range(
     ensures { result ≡ digits_in_range (length (take n radices)) radices word downs }
 {
     let mut ok = true;
-    // The number is counted beside the index for speed: made of the index, it is compared as 64 bits, and the loop takes twice as long.
+    // Counted beside the index for speed: a number made of the index is compared as 64 bits, and the loop takes twice as long.
     let mut number: u8 = 0;
     for i in 0..DIGITS {
         number += 1;
@@ -112,7 +112,8 @@ pub fn advanced(m: u8, a: u8, down: bool) -> Directed
     Directed { digit: to, down }.turned(m)
 }
 
-// The digits of an engine's survey that move, in rising order, and how many they are.
+// The digits of an engine's survey that move, in rising order, and how many they are: an array and its count, since an engine's
+// state is a value of fixed memory.
 #[derive(Clone, Copy)]
 pub struct MovingDigits {
     pub digits: [u8; DIGITS],
