@@ -28,7 +28,7 @@ fn resume(walk: &mut Walk, radices: &[u8], numbers: &[u64]) -> Option<()> {
     Some(())
 }
 
-pub fn run(walk: &mut Walk, moves: u64, lent: u64) {
+pub(crate) fn run(walk: &mut Walk, moves: u64, lent: u64) {
     print_lent(lent, |out| {
         let (next, answer) = walk.run(moves, out);
         *walk = next;
@@ -57,7 +57,7 @@ fn set(walk: &mut Walk, name: &[u8], index: Option<usize>, value: u8) -> Option<
     Some(())
 }
 
-pub fn call(walk: &mut Walk, name: &[u8], given: Given) -> Option<()> {
+pub(crate) fn call(walk: &mut Walk, name: &[u8], given: Given) -> Option<()> {
     match (name, given.numbers) {
         (b"step", _) => step(walk),
         (b"resume", numbers) => resume(walk, given.list, numbers)?,

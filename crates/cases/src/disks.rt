@@ -17,7 +17,7 @@ fn open(towers: &mut Towers, radices: &[u8]) {
     print_opening(answer);
 }
 
-pub fn run(towers: &mut Towers, moves: u64, lent: u64) {
+pub(crate) fn run(towers: &mut Towers, moves: u64, lent: u64) {
     print_lent(lent, |out| {
         let (next, answer) = towers.run(moves, out);
         *towers = next;
@@ -42,7 +42,7 @@ fn set(towers: &mut Towers, name: &[u8], index: Option<usize>, value: u8) -> Opt
     Some(())
 }
 
-pub fn call(towers: &mut Towers, name: &[u8], given: Given) -> Option<()> {
+pub(crate) fn call(towers: &mut Towers, name: &[u8], given: Given) -> Option<()> {
     match (name, given.numbers) {
         (b"step", _) => step(towers),
         (b"open", _) => open(towers, given.list),

@@ -34,7 +34,7 @@ fn move_case(digits: &[u8], down: bool) -> Option<()> {
     Some(())
 }
 
-pub fn call(name: &[u8], given: Given) -> Option<()> {
+pub(crate) fn call(name: &[u8], given: Given) -> Option<()> {
     let list = given.list;
     match (name, given.numbers) {
         (b"rank", numbers) => rank_case(list, numbers)?,

@@ -18,17 +18,17 @@ impl fmt::Write for Output {
     }
 }
 
-pub fn print_bytes(bytes: &[u8]) {
+pub(crate) fn print_bytes(bytes: &[u8]) {
     io::write_all(1, bytes);
 }
 
-pub fn print(text: impl fmt::Display + Drop) {
+pub(crate) fn print(text: impl fmt::Display + Drop) {
     let _ = write!(Output, "{text}");
 }
 
 // The bytes of a list, each with a space before it.
 #[derive(Clone, Copy)]
-pub struct Items<'a>(pub &'a [u8]);
+pub(crate) struct Items<'a>(pub &'a [u8]);
 
 impl fmt::Display for Items<'_> {
     fn fmt<W: fmt::Write>(&self, f: &mut fmt::Formatter<W>) -> fmt::Result {
@@ -58,7 +58,7 @@ fn first<T>(items: &[T], n: usize) -> &[T] {
     items.get(..n).unwrap_or(items)
 }
 
-pub fn direction(down: bool) -> &'static str {
+pub(crate) fn direction(down: bool) -> &'static str {
     if down { "down" } else { "up" }
 }
 
@@ -77,7 +77,7 @@ fn print_counted(name: &str, count: u8, each: &str, bytes: &[u8]) {
     print(format_args!("; {name} {count}; {each}{items}"));
 }
 
-pub fn print_walk(walk: &Walk) {
+pub(crate) fn print_walk(walk: &Walk) {
     print_survey(walk.n, &walk.radices, &walk.moving, &walk.word, &walk.downs);
     let counter = Digits(first(&walk.producer.counter, usize::from(walk.moving.count) + 1));
     let at = walk.producer.at;
@@ -94,7 +94,7 @@ pub fn print_walk(walk: &Walk) {
     ));
 }
 
-pub fn print_towers(towers: &Towers) {
+pub(crate) fn print_towers(towers: &Towers) {
     print_survey(
         towers.n,
         &towers.radices,
@@ -107,20 +107,20 @@ pub fn print_towers(towers: &Towers) {
 }
 
 // An answer, or the refusal's number.
-pub fn print_answer<T: fmt::Display + Drop>(answer: Result<T, Refusal>) {
+pub(crate) fn print_answer<T: fmt::Display + Drop>(answer: Result<T, Refusal>) {
     match answer {
         Ok(value) => print(format_args!(": {value}")),
         Err(refusal) => print(format_args!(": refused {}", u8::from(refusal))),
     }
 }
 
-pub fn print_opening(answer: Result<(), Refusal>) {
+pub(crate) fn print_opening(answer: Result<(), Refusal>) {
     print_answer(answer.map(|()| "open"));
 }
 
 // The words for what a step and a run answer.
 #[derive(Clone, Copy)]
-pub struct Stepped(pub Stepping);
+pub(crate) struct Stepped(pub Stepping);
 
 impl fmt::Display for Stepped {
     fn fmt<W: fmt::Write>(&self, f: &mut fmt::Formatter<W>) -> fmt::Result {
@@ -134,7 +134,7 @@ impl fmt::Display for Stepped {
 }
 
 #[derive(Clone, Copy)]
-pub struct Ran(pub Running);
+pub(crate) struct Ran(pub Running);
 
 impl fmt::Display for Ran {
     fn fmt<W: fmt::Write>(&self, f: &mut fmt::Formatter<W>) -> fmt::Result {
@@ -149,7 +149,7 @@ impl fmt::Display for Ran {
 }
 
 // Lends a call so many bytes of 9, 256 at the most, and prints what it answers and the bytes afterwards.
-pub fn print_lent<T: fmt::Display + Drop, F: FnOnce(&mut [u8]) -> Result<T, Refusal>>(
+pub(crate) fn print_lent<T: fmt::Display + Drop, F: FnOnce(&mut [u8]) -> Result<T, Refusal>>(
     lent: u64,
     call: F,
 )

@@ -3,7 +3,7 @@
 const SEPARATORS: &[u8] = b" ,";
 
 // A text up to the first of some bytes, and from it on.
-pub fn split_before<'a>(text: &'a [u8], stops: &[u8]) -> (&'a [u8], &'a [u8]) {
+pub(crate) fn split_before<'a>(text: &'a [u8], stops: &[u8]) -> (&'a [u8], &'a [u8]) {
     match text.iter().position(|byte| stops.contains(byte)) {
         Some(end) => text.split_at(end),
         None => (text, &[]),
@@ -11,12 +11,12 @@ pub fn split_before<'a>(text: &'a [u8], stops: &[u8]) -> (&'a [u8], &'a [u8]) {
 }
 
 // A line's first word, which ends at a space, a comma or the end, and the rest of the line from there.
-pub fn split_word(text: &[u8]) -> (&[u8], &[u8]) {
+pub(crate) fn split_word(text: &[u8]) -> (&[u8], &[u8]) {
     split_before(text, SEPARATORS)
 }
 
 // A name is known by its last eight letters, without the zeros that they begin with.
-pub fn known(name: &[u8]) -> &[u8] {
+pub(crate) fn known(name: &[u8]) -> &[u8] {
     let last = &name[name.len().saturating_sub(8)..];
     match last.iter().position(|letter| *letter != 0) {
         Some(start) => &last[start..],
@@ -25,7 +25,7 @@ pub fn known(name: &[u8]) -> &[u8] {
 }
 
 // The numbers of a text, with spaces and commas between them, where all can be read and there is room for them.
-pub fn read_list<'a, T: TryFrom<u64> + Copy>(text: &[u8], room: &'a mut [T]) -> Option<&'a [T]>
+pub(crate) fn read_list<'a, T: TryFrom<u64> + Copy>(text: &[u8], room: &'a mut [T]) -> Option<&'a [T]>
 where
     T::Error: Drop,
 {
@@ -42,7 +42,7 @@ where
 }
 
 // The same numbers as bytes, where all of them are and there is room for them.
-pub fn narrow<'a>(numbers: &[u64], room: &'a mut [u8]) -> Option<&'a [u8]> {
+pub(crate) fn narrow<'a>(numbers: &[u64], room: &'a mut [u8]) -> Option<&'a [u8]> {
     let bytes = room.get_mut(..numbers.len())?;
     for (byte, &number) in bytes.iter_mut().zip(numbers) {
         *byte = u8::try_from(number).ok()?;
@@ -52,13 +52,13 @@ pub fn narrow<'a>(numbers: &[u64], room: &'a mut [u8]) -> Option<&'a [u8]> {
 
 // What a line gives a call: a list of bytes, and numbers after a comma.
 #[derive(Clone, Copy)]
-pub struct Given<'a> {
-    pub list: &'a [u8],
-    pub numbers: &'a [u64],
+pub(crate) struct Given<'a> {
+    pub(crate) list: &'a [u8],
+    pub(crate) numbers: &'a [u64],
 }
 
 impl<'a> Given<'a> {
-    pub fn read(text: &[u8], list: &'a mut [u8], numbers: &'a mut [u64]) -> Option<Given<'a>> {
+    pub(crate) fn read(text: &[u8], list: &'a mut [u8], numbers: &'a mut [u64]) -> Option<Given<'a>> {
         let (first, rest) = split_before(text, b",");
         Some(Given {
             list: read_list(first, list)?,
@@ -67,7 +67,7 @@ impl<'a> Given<'a> {
     }
 
     // The index of the digit or the entry whose number the list begins with, if it has one; past any array for a number of 0.
-    pub fn index(self) -> Option<usize> {
+    pub(crate) fn index(self) -> Option<usize> {
         let first = self.list.first()?;
         Some(usize::from(first.wrapping_sub(1)))
     }
