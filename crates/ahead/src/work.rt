@@ -42,7 +42,8 @@ impl<'a> Places<'a> {
         self.radices[usize::from(k) - 1]
     }
 
-    // One work step.
+    // One work step. (The counter, the queue and the numbers are lent apart: as a method of `Producer`, which is proved as easily,
+    // it costs a call of `step` a twentieth more.)
     pub(crate) fn work(self, counter: &mut [u8], queue: &mut [u8], at: Progress) -> Progress
         requires { Workable self.radices.now self.numbers.now self.n self.count self.capacity counter.old queue.old at }
         ensures { producer_with counter.new queue.new result
