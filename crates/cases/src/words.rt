@@ -25,7 +25,10 @@ pub(crate) fn known(name: &[u8]) -> &[u8] {
 }
 
 // The numbers of a text, with spaces and commas between them, where all can be read and there is room for them.
-pub(crate) fn read_list<'a, T: TryFrom<u64> + Copy>(text: &[u8], room: &'a mut [T]) -> Option<&'a [T]>
+pub(crate) fn read_list<'a, T: TryFrom<u64> + Copy>(
+    text: &[u8],
+    room: &'a mut [T],
+) -> Option<&'a [T]>
 where
     T::Error: Drop,
 {
@@ -58,7 +61,11 @@ pub(crate) struct Given<'a> {
 }
 
 impl<'a> Given<'a> {
-    pub(crate) fn read(text: &[u8], list: &'a mut [u8], numbers: &'a mut [u64]) -> Option<Given<'a>> {
+    pub(crate) fn read(
+        text: &[u8],
+        list: &'a mut [u8],
+        numbers: &'a mut [u64],
+    ) -> Option<Given<'a>> {
         let (first, rest) = split_before(text, b",");
         Some(Given {
             list: read_list(first, list)?,
