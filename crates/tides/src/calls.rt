@@ -60,10 +60,7 @@ fn moves(high: u64, low: u64) -> u32
     requires { (high < 2 ^ 32) × (low < 2 ^ 32) }
     ensures { result ≡ moves_that_fit (record { from = high + 60; to = low }) }
 {
-    if low < high + WAIT {
-        return 0;
-    }
-    ((low - high - WAIT) / MOVE_TIME) as u32
+    (low.saturating_sub(high + WAIT) / MOVE_TIME) as u32
 }
 
 // The counts of a file that has been read before, for which `out` has room.
@@ -73,6 +70,7 @@ fn put_counts(file: &[u8], out: &mut [u32])
 {
     let (lines, _) = file.as_chunks::<LINE>();
     let (pairs, _) = lines[first_high(lines)..].as_chunks::<2>();
+    // Not by a zip with `out.iter_mut()`: no proof knows what such a loop leaves in `out`.
     for (i, [high, low]) in pairs.iter().enumerate() {
         out[i] = moves(minute_of(high), minute_of(low));
     }

@@ -1,5 +1,5 @@
 -- `figures::walk` meets its contract: no more words agree than have come. Assumes nothing.
-use Rattle.std.proofs.Common.{ℕ, ◌+◌, ◌<◌, ◌≤◌, ◌≡◌, Bool, true, false, List, ◌++◌, length, arith, ap, sym, ◌∙◌, length-append}
+use Rattle.std.proofs.Common.{ℕ, ◌+◌, ◌<◌, ◌≤◌, ◌≡◌, Bool, true, false, List, ◌++◌, length, arith, ap, ◌∙◌, length-append}
 use mir.Val.{bool_byte}
 use Rattle.std.specs.Slice.Iter.{chunks_exact_rest}
 use Rattle.figures.proofs.walk.Goals as goal
