@@ -21,7 +21,8 @@ struct Called {
 }
 
 // The arrays of a run, by places: the radices less 1, what is left to count, what the digit there has left to go in its
-// direction, and the byte of its next move.
+// direction, and the byte of its next move. (Four arrays and none of structs: `stretch::run` takes them, and lets each be indexed
+// by any byte.)
 #[derive(Clone, Copy)]
 struct Lanes {
     tops: [u8; PLACES],

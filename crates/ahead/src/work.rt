@@ -9,7 +9,7 @@ use super::Progress;
 use gray::CAPACITY;
 
 // What work steps go by: a survey's radices, the numbers of the digits that move, how many digits there are and how many move,
-// and the capacity.
+// and the capacity. (An array of numbers and their count, as a state has them: its memory is fixed.)
 #[derive(Clone, Copy)]
 pub(crate) struct Places<'a> {
     pub(crate) radices: &'a [u8],

@@ -15,7 +15,7 @@ pub(crate) fn split_word(text: &[u8]) -> (&[u8], &[u8]) {
     split_before(text, SEPARATORS)
 }
 
-// A name is known by its last eight letters, without the zeros that they begin with.
+// A name is known by its last eight bytes, without the zero bytes that they begin with.
 pub(crate) fn known(name: &[u8]) -> &[u8] {
     let last = &name[name.len().saturating_sub(8)..];
     match last.iter().position(|letter| *letter != 0) {

@@ -173,7 +173,8 @@ fn are_moving(n: u8, radices: [u8; DIGITS], stored: MovingDigits) -> bool
     ok & (met == usize::from(stored.count))
 }
 
-// The range rule for the digits that move, of n radices with digit 1 first. Where as many are held as there are digits, each must move.
+// The range rule for the digits that move, of n radices with digit 1 first. Where as many are held as there are digits, each must
+// move.
 pub fn moving_in_range(n: u8, radices: [u8; DIGITS], stored: MovingDigits) -> bool
     ensures { result ≡ moving_in_range (take n radices) (moving_as stored) }
 {

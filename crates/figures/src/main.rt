@@ -28,6 +28,7 @@ struct Walked {
     ended: bool,
 }
 
+// (Each program has these few lines of its own: a crate for them would be no plainer.)
 fn print(text: &[u8]) {
     io::write_all(1, text);
 }

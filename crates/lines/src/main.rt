@@ -9,6 +9,7 @@ use gray::{DIGITS, Refusal};
 use reader::{Found, Reader};
 use text_theory::Line;
 
+// (Each program has these few lines of its own: a crate for them would be no plainer.)
 fn print(bytes: &[u8]) {
     io::write_all(1, bytes);
 }

@@ -159,7 +159,7 @@ fn square(
 
 // The upward lister: i digits stand fixed in `word`, and the next one goes through its notches, 0 first. After an even notch
 // the digits that remain are listed upward too, after an odd one downward.
-// (Radices and sizes come apart: as a struct of references each clause would have to say at which moment it means them.)
+// (Radices and sizes are two parameters: of a struct of references each clause would have to say at which moment it means it.)
 #[cycle(listers)]
 fn up(
     radices: &[u8],

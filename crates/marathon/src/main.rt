@@ -19,6 +19,7 @@ enum Unended {
     Unfinished,
 }
 
+// (Each program has these few lines of its own: a crate for them would be no plainer.)
 fn print(bytes: &[u8]) {
     io::write_all(1, bytes);
 }

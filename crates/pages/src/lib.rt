@@ -25,7 +25,7 @@ pub struct Printing {
 }
 
 // What is to be printed behind a page, how many bytes of the page are used, and whether it is the last one.
-// `rest` is in no Option with `last` as its test, since `filling` says what it is on the last page too.
+// (`rest` and `last` are no Option, since `filling` says what `rest` is on the last page too.)
 #[derive(Clone, Copy)]
 pub struct Filled {
     pub rest: Printing,

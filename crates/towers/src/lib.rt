@@ -194,7 +194,7 @@ fn move_digit(radices: &[u8], at: usize, word: &mut [u8], downs: &mut [bool]) ->
 }
 
 // What stays the same in a run: the radix that tells the game, the radices, how many digits there are, the numbers of those that
-// move, and how many those are.
+// move, and how many those are. (An array and its count, as a state has them: its memory is fixed.)
 #[derive(Clone, Copy)]
 struct Game<'a> {
     m: u8,

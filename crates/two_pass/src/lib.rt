@@ -13,7 +13,8 @@ ghost use Rattle.two_pass.specs.Stages.{checked_as, Rankable};
 
 use gray::Refusal;
 
-// Document 01's b: a digit as it is after a rank that is even, from the other end after one that is odd.
+// Document 01's b: a digit as it is after a rank that is even, from the other end after one that is odd. (Private in `gray`; this
+// crate is the rank as it was, whole, so it has its own.)
 fn reflect(m: u64, p: u64, a: u64) -> u64
     requires { a < m }
     ensures { result ≡ reflected m p a }

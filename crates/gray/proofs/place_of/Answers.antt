@@ -4,10 +4,10 @@ use mathlib.Core.Path.{refl, sym, ◌∙◌}
 use native.Mathlib.Omega.{arith}
 use Rattle.gray_theory.specs.Words.{reflect}
 use Rattle.gray_theory.proofs.Ranking.{rank_small, not_below}
-use Rattle.gray.proofs.Laws.{RankedTo, ranked_none, ranked_first, pair_more, ranked_pair, ranked_all, pair_wrong}
+use Rattle.gray.proofs.Laws.{RankedTo, ranked_none, ranked_first, pair_more, ranked_pair, pair_wrong}
 use Rattle.gray.proofs.Laws.{no_place, wrong_over}
 use Rattle.gray.proofs.place_of.Goals as goal
-use Rattle.gray.proofs.place_of.Goals.{then-odd-eq1+in_ok-a, else-odd-eq1, In_ok-m}
+use Rattle.gray.proofs.place_of.Goals.{then-i-eq1+in_ok-a, else-i-eq1, In_ok-m}
 
 -- what a turn makes of the rank, which is below 2^62
 made : (c : In_ok-m)
@@ -23,19 +23,19 @@ made c =
 
 pub returns-in_err-a : goal.returns-in_err-a
 returns-in_err-a c =
-    let odd = c.if-odd-eq1.true in
+    let odd = c.if-i-eq1.true in
     let l = c.args.radices.now in
     let w = c.args.word.now in
     rw c.from_residual.ensures (no_place l w (not_below l w 0 (omega arith) (wrong_over _ _ (sym c.digit_at.ensures.0 ∙ c.in_err-a.was))))
 
 pub loop-i-init : goal.loop-i-init
 loop-i-init c =
-    elim c.if-odd-eq1.branch [
-      | then-odd-eq1+in_ok-a w ↦
+    elim c.if-i-eq1.branch [
+      | then-i-eq1+in_ok-a w ↦
           rw
           w.p-is
-          (ranked_first _ _ c.requires.long _ _ _ w.if-odd-eq1.true refl (sym w.digit_at.ensures.0 ∙ w.in_ok-a.was))
-      | else-odd-eq1 w ↦ ranked_none _ _ _ _ (let even = w.if-odd-eq1.false in omega arith) w.p-is refl
+          (ranked_first _ _ c.requires.long _ _ _ w.if-i-eq1.true refl (sym w.digit_at.ensures.0 ∙ w.in_ok-a.was))
+      | else-i-eq1 w ↦ ranked_none _ _ _ _ (let even = w.if-i-eq1.false in omega arith) w.p-is refl
     ]
 
 pub returns-in_err-m : goal.returns-in_err-m
@@ -55,9 +55,3 @@ overflow_add-p c = let small = (made (goal.at.overflow_add-p c).In_ok-m).1 in le
 
 pub loop-i-preserved : goal.loop-i-preserved
 loop-i-preserved c = rw c.reflect.ensures (made (goal.at.loop-i-preserved c).In_ok-m).0
-
-pub returns-in_ok-m : goal.returns-in_ok-m
-returns-in_ok-m c =
-    rw
-    c.reflect.ensures
-    (ranked_all _ _ c.requires.long _ _ (made (goal.at.returns-in_ok-m c).In_ok-m).0 (omega arith))
