@@ -3,7 +3,7 @@ use Prim.Native.Nat.{ℕ, ◌+◌, ◌-◌, ◌^◌, ◌≤◌, ◌<◌}
 use native.Mathlib.Decide.{dec_lt, ℕ_discrete}
 use native.Mathlib.Omega.{arith}
 use mathlib.Core.Path.{◌≡◌, refl, sym, ap, ap₂, subst, ◌∙◌}
-use mathlib.Core.Bool.{Bool, true, false, cond, ◌&&◌, ◌||◌, and-eq-true_iff}
+use mathlib.Core.Bool.{Bool, true, false, cond, not, ◌&&◌, ◌||◌, and-eq-true_iff}
 use mathlib.Core.List.{List, [], ◌++◌}
 use borrow.Author.Tests.{lt-ltb, le-ltb, le-leb, eq-eqb, ne_eqb, ltb-true, eqb-true}
 use lib.Dec.{eqb, ltb}
@@ -23,9 +23,9 @@ use Rattle.gray_theory.specs.RunCalls.{Stop, nothing, end, refusal, Outcome, Run
 use Rattle.gray_theory.proofs.SingleCalls.{no_moves-change_nothing}
 use Rattle.gray_theory.specs.RunLaws.{Moved}
 use Rattle.gray_theory.proofs.RunLaws.{moved_none, all_made, ends_there, refused_there, run-made_by}
-use Rattle.gray.specs.Enums.{counted_as}
-use Rattle.gray.specs.declared.Counted.{Counted}
-use Rattle.gray.specs.declared.Counted.TheVariants.{Size, Refused}
+use Rattle.std.specs.Prelude.{Option, None, Some, is_some, Result, Ok, Err, min}
+use Rattle.gray.specs.Enums.{refusal_number, answer_as}
+use Rattle.gray.specs.declared.Refusal.{Refusal}
 use Rattle.ahead_theory.specs.States.{Walk, survey, moving_radices, in_range, Arrays}
 use Rattle.ahead_theory.specs.Calls.{step_of, run_of}
 use Rattle.ahead_theory.specs.Events.{state}
@@ -36,12 +36,25 @@ use Rattle.ahead_theory.proofs.LocalCalls.{numbered}
 use Rattle.ahead_theory.proofs.LocalRuns as runs
 use Rattle.ahead_theory.proofs.LocalRuns.{OnWay, EndsAt, Halted, IsRun, stretch_is_the_run, stands_bounded, stands_again}
 use Rattle.stretch.specs.declared.Stage.{Stage}
+use Rattle.std.specs.Option.{option_eq}
+use Rattle.stretch.specs.declared.Stop as stops
+use Rattle.stretch.specs.declared.Stop.TheVariants.{End, Dry, Misfit}
+use Rattle.stretch.specs.contracts.StopPartialEq.TheImpl.{eq-value as stop_eq}
 use Rattle.stretch.specs.declared.Stretch.{Stretch}
-use Rattle.stretch.specs.Stages.{Stretched, stretch_as, ran_into, calls_by, from_oldest, fits_for, stretch_by}
+use Rattle.stretch.specs.Stages.{stop_number, Stretched, stretch_as, ran_into, calls_by, from_oldest, fits_for, stretch_by}
 use Rattle.ahead.specs.Stretches as calls
-use Rattle.ahead.specs.Stretches.{Wide, Loaded, fast_from, Unloads, Unloadable, Part, Callable, CallsHalted, Calls, Room, outcome_of, stop_by}
+use Rattle.ahead.specs.Stretches.{Wide, Loaded, fast_from, Unloads, Unloadable, Callable, CallsHalted, Calls, Room, outcome_of, stop_by}
 use Rattle.ahead.proofs.Ranges.{not_open}
 use Rattle.ahead.proofs.Steps.{already_over}
+
+-- ---- the calls that a stretch makes of those that are left
+record Part (left r : ℕ) : Type 0 where
+  most : r ≤ 1024
+  within : r ≤ left
+  some : 0 < left → 0 < r
+
+part : (left r : ℕ) → r ≡ min left 1024 → Part left r
+part left r e = record { most = omega arith; within = omega arith; some = λ h. omega arith }
 
 -- ---- the queue of a stretch
 past-filled : (l : List ℕ) (x : ℕ) → length l ≡ 32 → 32 ≤ x → get_or (filled 1056 0 l) x 0 ≡ 0
@@ -91,17 +104,17 @@ record Ready (w₀ : Walk) (done most : ℕ) (tops rest left bytes entries : Lis
 
 -- how it stopped, and the state that its arrays then stand for
 data Stopped (w₀ : Walk) (done most : ℕ) (tops rest left bytes : List ℕ) (r : Stretch) : Type 0 where
-  full : r.stop ≡ 0
+  full : stop_number r.stop ≡ 0
       → r.made ≡ most
       → OnWay w₀ (done + r.made)
       → Stands w₀ (state w₀ (done + r.made)) 0 tops left bytes (fast_from rest r.entries r.at)
       → Stopped w₀ done most tops rest left bytes r
-  ends : r.stop ≡ 1
+  ends : stop_number r.stop ≡ 1
       → r.made < most
       → EndsAt w₀ (done + r.made)
       → Stands w₀ (step_of (state w₀ (done + r.made))).state 0 tops left bytes (fast_from rest r.entries r.at)
       → Stopped w₀ done most tops rest left bytes r
-  dries : r.stop ≡ 2
+  dries : stop_number r.stop ≡ 2
       → r.made < most
       → step_of (state w₀ (done + r.made)) ≡ refused_with 10 (state w₀ (done + r.made))
       → OnWay w₀ (done + r.made)
@@ -170,7 +183,7 @@ module _
         made_is : r.made ≡ length made_by.written
         made_is = ap (λ (x : Stretched). x.made) is
 
-        stop_is : r.stop ≡ made_by.stop
+        stop_is : stop_number r.stop ≡ made_by.stop
         stop_is = ap (λ (x : Stretched). x.stop) is
 
         -- what stands on the arrays that the run leaves stands on those that the code leaves
@@ -245,6 +258,23 @@ pub record Calling (w₀ : Walk) (limit : ℕ) (before out tops rest left bytes 
   pub moved_by : Moved step_of w₀ done written
   pub leaves : out ≡ placed 0 written before
   pub here : CallsAt w₀ limit tops rest left bytes entries at done stop
+
+-- the tests of what stopped the calls
+pub stop_none : (stop : Option stops.Stop) (none : Bool) → is_some stop ≡ not none → none ≡ eqb (stop_number stop) 0
+stop_none None true e = refl
+stop_none None false e = e
+stop_none (Some End) true e = e
+stop_none (Some End) false e = refl
+stop_none (Some Dry) true e = e
+stop_none (Some Dry) false e = refl
+stop_none (Some Misfit) true e = e
+stop_none (Some Misfit) false e = refl
+
+pub stop_end : (stop : Option stops.Stop) → option_eq stop_eq.it stop (Some End) ≡ eqb (stop_number stop) 1
+stop_end None = refl
+stop_end (Some End) = refl
+stop_end (Some Dry) = refl
+stop_end (Some Misfit) = refl
 
 -- what is left to do
 abbrev pub calls_left : ℕ → ℕ → ℕ → ℕ
@@ -364,8 +394,8 @@ module _ (w₀ : Walk) (limit : ℕ) (before : List ℕ) where
       unloads (at_end z m e st) = ((step_of (state w₀ done)).state, end_unloads z e st)
       unloads (is_dry z m an o st) = (state w₀ done, way_unloads (λ e. absurd (omega arith)) o st)
 
-      pub unloadable : Unloadable w₀ tops rest left bytes entries at done (eqb stop 1)
-      unloadable =
+      going_or_over : Unloadable w₀ tops rest left bytes entries at done (eqb stop 1)
+      going_or_over =
           let (w, t) = unloads s.here in
           let r = range_says w₀ s.ready.ranged in
           let n = (moving_known w₀ r).count in
@@ -390,8 +420,14 @@ module _ (w₀ : Walk) (limit : ℕ) (before : List ℕ) where
             small = omega arith;
           }
 
+      pub unloadable : (over : Bool) → over ≡ eqb stop 1 → Unloadable w₀ tops rest left bytes entries at done over
+      unloadable over is = subst (Unloadable w₀ tops rest left bytes entries at done) (sym is) going_or_over
+
       -- a stretch more
-      module _ (goes : (ltb done limit && eqb stop 0) ≡ true) where
+      module _ (none : Bool) (is_none : none ≡ eqb stop 0) (and_none : (ltb done limit && none) ≡ true) where
+        goes : (ltb done limit && eqb stop 0) ≡ true
+        goes = ap (λ b. ltb done limit && b) (sym is_none) ∙ and_none
+
         pub less : done < limit
         less = ltb-true done limit ((and-eq-true_iff (ltb done limit) (eqb stop 0)).0 goes).0
 
@@ -399,10 +435,13 @@ module _ (w₀ : Walk) (limit : ℕ) (before : List ℕ) where
         nothing_stopped = eqb-true stop 0 ((and-eq-true_iff (ltb done limit) (eqb stop 0)).0 goes).1
 
         module _
-            (most : ℕ) (p : Part (limit - done) most) (last c : ℕ) (last_is : last ≡ w₀.directed.moving.count + 1) (c-is : c ≡ w₀.capacity)
+            (most : ℕ) (cut : most ≡ min (limit - done) 1024) (last c : ℕ) (last_is : last ≡ w₀.directed.moving.count + 1) (c-is : c ≡ w₀.capacity)
             (rest' left' bytes' after' : List ℕ) (r : Stretch)
             (says : stretch_as r rest' left' bytes' after' ≡ stretch_by last c most tops rest left bytes entries at done out)
           where
+            p : Part (limit - done) most
+            p = part (limit - done) most cut
+
             stretch_ready : CallsAt w₀ limit tops rest left bytes entries at done stop → Ready w₀ done most tops rest left bytes entries at out
             stretch_ready (at_end z m e st) = let n = nothing_stopped in absurd (omega arith)
             stretch_ready (is_dry z m an o st) = let n = nothing_stopped in absurd (omega arith)
@@ -430,7 +469,7 @@ module _ (w₀ : Walk) (limit : ℕ) (before : List ℕ) where
 
             -- where it stopped
             here_then : Stopped w₀ done most tops rest' left' bytes' r
-                → CallsAt w₀ limit tops rest' left' bytes' r.entries r.at (done + r.made) r.stop
+                → CallsAt w₀ limit tops rest' left' bytes' r.entries r.at (done + r.made) (stop_number r.stop)
             here_then (full z m o st) = on_way z o st
             here_then (ends z m e st) = let w = p.within in let l = less in at_end z (omega arith) e st
             here_then (dries z m an o st) = let w = p.within in let l = less in is_dry z (omega arith) an o st
@@ -443,7 +482,7 @@ module _ (w₀ : Walk) (limit : ℕ) (before : List ℕ) where
             pub made_within : done + r.made ≤ limit
             made_within = let m = made_most made.halted in let w = p.within in let l = less in omega arith
 
-            pub calls_more : Calling w₀ limit before after' tops rest' left' bytes' r.entries r.at (done + r.made) r.stop
+            pub calls_more : Calling w₀ limit before after' tops rest' left' bytes' r.entries r.at (done + r.made) (stop_number r.stop)
             calls_more =
                 let c = s.moved_by.count in
                 let e : done ≡ 0 + length s.written = omega arith in
@@ -461,33 +500,33 @@ module _ (w₀ : Walk) (limit : ℕ) (before : List ℕ) where
                   here = here_then made.halted;
                 }
 
-            fewer : Stopped w₀ done most tops rest' left' bytes' r → calls_left limit (done + r.made) r.stop < limit - done
+            fewer : Stopped w₀ done most tops rest' left' bytes' r → calls_left limit (done + r.made) (stop_number r.stop) < limit - done
             fewer (full z m o st) =
                 let l = less in
                 let some = p.some (omega arith) in
                 let w = p.within in
-                rw (eq-eqb r.stop 0 z) (omega arith)
-            fewer (ends z m e st) = let l = less in rw (ne_eqb r.stop 0 (λ x. absurd (omega arith))) (omega arith)
-            fewer (dries z m an o st) = let l = less in rw (ne_eqb r.stop 0 (λ x. absurd (omega arith))) (omega arith)
+                rw (eq-eqb (stop_number r.stop) 0 z) (omega arith)
+            fewer (ends z m e st) = let l = less in rw (ne_eqb (stop_number r.stop) 0 (λ x. absurd (omega arith))) (omega arith)
+            fewer (dries z m an o st) = let l = less in rw (ne_eqb (stop_number r.stop) 0 (λ x. absurd (omega arith))) (omega arith)
 
-            pub calls_fewer : calls_left limit (done + r.made) r.stop < calls_left limit done stop
+            pub calls_fewer : calls_left limit (done + r.made) (stop_number r.stop) < calls_left limit done stop
             calls_fewer = let n = nothing_stopped in rw (eq-eqb stop 0 n) (fewer made.halted)
 
 -- ---- the moves that are left
-module _ (w : Walk) (ranged : in_range w ≡ true) (k : ℕ) (same : k ≡ w.directed.n) (o : Counted) (says : counted_as o ≡ size_call (take k w.directed.radices)) where
-  size-says : size_call (survey w) ≡ counted_as o
+module _ (w : Walk) (ranged : in_range w ≡ true) (k : ℕ) (same : k ≡ w.directed.n) (o : Result ℕ Refusal) (says : answer_as o ≡ size_call (take k w.directed.radices)) where
+  size-says : size_call (survey w) ≡ answer_as o
   size-says = ap (λ (j : ℕ). size_call (take j w.directed.radices)) (sym same) ∙ sym says
 
-  pub room_left : (total : ℕ) → o ≡ Size total → (w.moves ≤ total) × Room w (total - w.moves)
+  pub room_left : (total : ℕ) → o ≡ Ok total → (w.moves ≤ total) × Room w (total - w.moves)
   room_left total is =
-      let (whole, small) = survey-size (survey w) total (size-says ∙ ap counted_as is) in
+      let (whole, small) = survey-size (survey w) total (size-says ∙ ap answer_as is) in
       let s = range_says w ranged in
       let rank = s.rank in
       (omega arith, record { left = omega arith; some = omega arith; small = omega arith })
 
-  pub room_never : (x : ℕ) → o ≡ Refused x → Room w 0
-  room_never x is =
-      let f = not_open w (survey_refused (survey w) _ x (size-says ∙ ap counted_as is)) in
+  pub room_never : (r : Refusal) → o ≡ Err r → Room w 0
+  room_never r is =
+      let f = not_open w (survey_refused (survey w) _ (refusal_number r) (size-says ∙ ap answer_as is)) in
       impossible (cc)
 
 -- ---- the call
@@ -529,15 +568,11 @@ module _ (w : Walk) (t : ℕ) (before : List ℕ) where
 
       -- ---- after the calls
       module _
-          (room limit : ℕ) (left : Room w room) (cut : limit ≡ cond (ltb t room) t room) (out : List ℕ) (v : Walk) (made stop : ℕ)
+          (room limit : ℕ) (left : Room w room) (cut : limit ≡ min t room) (out : List ℕ) (v : Walk) (made stop : ℕ)
           (b : Calls w limit before out v made stop)
         where
           limit_most : limit ≤ t
-          limit_most =
-              elim (dec_lt t room) [
-                | yes h ↦ let e = cut ∙ ap (λ x. cond x t room) (lt-ltb t room h) in omega arith
-                | no h ↦ let e = cut ∙ ap (λ x. cond x t room) (le-ltb t room (omega arith)) in omega arith
-              ]
+          limit_most = omega arith
 
           count_is : made ≡ length b.written
           count_is = sym b.moved_by.count
@@ -559,11 +594,7 @@ module _ (w : Walk) (t : ℕ) (before : List ℕ) where
               let l = limit_most in
               elim (dec_lt made t) [
                 | yes less ↦
-                    let e : limit ≡ room =
-                    elim (dec_lt t room) [
-                      | yes h ↦ let f = cut ∙ ap (λ x. cond x t room) (lt-ltb t room h) in absurd (omega arith)
-                      | no h ↦ cut ∙ ap (λ x. cond x t room) (le-ltb t room (omega arith))
-                    ] in
+                    let e : limit ≡ room = omega arith in
                     let lf = left.left in
                     let ss = ap size su in
                     let gone = past_the_end v (omega arith) in

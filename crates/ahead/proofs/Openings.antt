@@ -7,7 +7,7 @@ use borrow.Author.Tests.{not-false}
 use mathlib.Core.List.{List}
 use lib.ListN.{length, take, length-reverse}
 use Rattle.gray_theory.specs.Bools.{impossible}
-use Rattle.gray_theory.specs.Answers.{given, refused, refusing, number_of}
+use Rattle.gray_theory.specs.Answers.{given, refused, refusing}
 use Rattle.gray_theory.specs.Radices.{digits}
 use Rattle.gray_theory.specs.Words.{is_word, rank}
 use Rattle.gray_theory.specs.Locks.{MovingDigits, moving_digits}
@@ -18,9 +18,9 @@ use Rattle.gray_theory.specs.DirectedWords.{fresh_with}
 use Rattle.gray_theory.proofs.WordRanges.{fresh_from_lent}
 use Rattle.gray_theory.specs.Engines.{refused_with, open_with}
 use Rattle.gray_theory.specs.Capacities.{Openable}
-use Rattle.gray.specs.Enums.{ranked_as}
-use Rattle.gray.specs.declared.Ranked.{Ranked}
-use Rattle.gray.specs.declared.Ranked.TheVariants.{Rank, Refused as RankRefused}
+use Rattle.std.specs.Prelude.{Result, Ok, Err}
+use Rattle.gray.specs.Enums.{refusal_number, answer_as}
+use Rattle.gray.specs.declared.Refusal.{Refusal}
 use Rattle.ahead_theory.specs.States.{Walk, open_check}
 use Rattle.ahead_theory.specs.Calls.{fresh_on, fresh, open_of}
 use Rattle.ahead_theory.specs.Pickups.{resume_check, picked_up, resume_of}
@@ -49,22 +49,20 @@ module _ (w : Walk) (l : List ℕ) (c : ℕ) where
       ∙ ap (open_with w (fresh (digits l) c)) (sym (openable_passes (digits l) c (given tt) opens))
 
 -- ---- picking up: the rank of a word, once the survey passes
-module _ (l : List ℕ) (c : ℕ) (opens : Openable (digits l) c) (word : List ℕ) (o : Ranked) (ranks : ranked_as o ≡ rank_call l word) where
-  word_tested : ranked_as o ≡ refusing 8 (not (is_word (digits l) (digits word))) (given (rank (digits l) (digits word)))
+module _ (l : List ℕ) (c : ℕ) (opens : Openable (digits l) c) (word : List ℕ) (o : Result ℕ Refusal) (ranks : answer_as o ≡ rank_call l word) where
+  word_tested : answer_as o ≡ refusing 8 (not (is_word (digits l) (digits word))) (given (rank (digits l) (digits word)))
   unfolding rank_call
   word_tested = ranks ∙ limits_pass (digits l) _ opens.survey
 
-  pub ranked_on : (x number : ℕ) → o ≡ RankRefused x → number ≡ number_of (ranked_as o) → refused number ≡ resume_check (digits l) c (digits word)
-  ranked_on x number f g =
-      let same : number ≡ x = g ∙ ap (λ a. number_of (ranked_as a)) f in
+  pub ranked_on : (r : Refusal) → o ≡ Err r → refused (refusal_number r) ≡ resume_check (digits l) c (digits word)
+  ranked_on r f =
       let wrong = not (is_word (digits l) (digits word)) in
-      ap refused same
-      ∙ sym (openable_passes (digits l) c (refusing 8 wrong (given tt)) opens
-      ∙ still_refused 8 wrong (given (rank (digits l) (digits word))) (given tt) x (λ e. impossible (cc)) (sym word_tested ∙ ap ranked_as f))
+      sym (openable_passes (digits l) c (refusing 8 wrong (given tt)) opens
+      ∙ still_refused 8 wrong (given (rank (digits l) (digits word))) (given tt) (refusal_number r) (λ e. impossible (cc)) (sym word_tested ∙ ap answer_as f))
 
-  pub ranked_through : (r : ℕ) → o ≡ Rank r → (is_word (digits l) (digits word) ≡ true) × (r ≡ rank (digits l) (digits word))
+  pub ranked_through : (r : ℕ) → o ≡ Ok r → (is_word (digits l) (digits word) ≡ true) × (r ≡ rank (digits l) (digits word))
   ranked_through r f =
-      let (right, e) = passed 8 (not (is_word (digits l) (digits word))) (given (rank (digits l) (digits word))) r (sym word_tested ∙ ap ranked_as f) in
+      let (right, e) = passed 8 (not (is_word (digits l) (digits word))) (given (rank (digits l) (digits word))) r (sym word_tested ∙ ap answer_as f) in
       (not-false (is_word (digits l) (digits word)) right, sym (given_same (rank (digits l) (digits word)) r e))
 
 pub resuming_refused : (w : Walk) (l : List ℕ) (c : ℕ) (word : List ℕ) (k : ℕ)

@@ -148,6 +148,20 @@ module _ (l : List ℕ) (c : ℕ) where
   pub survey_within : (n : ℕ) → survey_call l c ≡ given n → Openable l c × (n ≡ size l)
   survey_within n e = (openable l c (survey_passes n e), (survey_call_given l c n e).1 ∙ size-reverse l)
 
+-- the entries that are held, lent as a part of the queue
+pub entries_lent : (n queued len : ℕ) (queue : List ℕ) (ok : Bool)
+    → len ≡ queued
+    → len ≤ length queue
+    → ok ≡ all_below (length (take len queue)) (λ i. leb 1 (get_or (take len queue) i 0) && leb (get_or (take len queue) i 0) (n + 1))
+    → ok ≡ all_below queued (λ i. leb 1 (get_or queue i 0) && leb (get_or queue i 0) (n + 1))
+entries_lent n queued len queue ok same room e =
+    let lent : ℕ → Bool = λ i. leb 1 (get_or (take len queue) i 0) && leb (get_or (take len queue) i 0) (n + 1) in
+    let whole : ℕ → Bool = λ i. leb 1 (get_or queue i 0) && leb (get_or queue i 0) (n + 1) in
+    e
+    ∙ ap (λ k. all_below k lent) (length-take-le len queue room)
+    ∙ all_below_same len lent whole (λ i h. ap (λ x. leb 1 x && leb x (n + 1)) (get_or-take len queue i 0 h))
+    ∙ ap (λ k. all_below k whole) same
+
 -- a stage that fails, and what the stages that are passed say
 module _ (w : Walk) where
   out_of_range : (Ranged w → ⊥) → false ≡ in_range w

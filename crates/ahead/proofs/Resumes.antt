@@ -1,9 +1,11 @@
 -- What picking up hands back at a word that passes its checks. Assumes nothing.
-use Prim.Native.Nat.{ℕ, ◌-◌, ◌≤◌, ◌<◌}
+use Prim.Native.Nat.{ℕ, ◌-◌, ◌≤◌, ◌<◌, min}
+use native.Mathlib.Decide.{dec_lt}
 use native.Mathlib.Omega.{arith}
 use mathlib.Core.Path.{◌≡◌, sym, ap, ap₂, subst, ◌∙◌}
 use mathlib.Core.Bool.{true, false, cond, not}
 use mathlib.Core.List.{List}
+use borrow.Author.Tests.{lt-ltb, le-ltb}
 use lib.Dec.{ltb}
 use lib.ListN.{length, take, replicate, length-reverse}
 use Rattle.gray_theory.specs.Answers.{given, refusing}
@@ -27,6 +29,14 @@ use Rattle.ahead_theory.proofs.PickedUp.{downs_from_start_lem}
 use Rattle.ahead.specs.Pickups.{RankedWord, unfilled_with, Unfilled, filled_ahead}
 use Rattle.ahead.proofs.Openings.{few_digits}
 use Rattle.ahead.proofs.Stands.{zero-filled}
+
+-- the less of two numbers
+cut_is : (a b : ℕ) → min a b ≡ cond (ltb a b) a b
+cut_is a b =
+    elim (dec_lt a b) [
+      | yes h ↦ rw (lt-ltb a b h) (omega arith)
+      | no h ↦ rw (le-ltb a b (omega arith)) (omega arith)
+    ]
 
 -- a survey, its N, a word of it, its rank, and the arrays that the code makes of them
 pub record Resumable (l word : List ℕ) (c total r : ℕ) (radices : List ℕ) (moving : MovingDigits) (notches : List ℕ) : Type 0 where
@@ -73,7 +83,7 @@ module _
     rank_within = let below = rank_small in let whole = p.whole in omega arith
 
     module _ (stood : Walk) (s : stood ≡ unfilled_with radices (length l) moving c notches r) where
-      pub resume_unfilled : (entries : ℕ) → entries ≡ cond (ltb (total - r) c) (total - r) c → Unfilled stood entries
+      pub resume_unfilled : (entries : ℕ) → entries ≡ min (total - r) c → Unfilled stood entries
       resume_unfilled entries e =
           let ms = take (length l) radices in
           let same : size (unlocked ms) ≡ size (digits l) =
@@ -93,7 +103,7 @@ module _
             empty =
                 ap (λ t. record { counter = t; place = 1; queue = replicate 32 0; queued = 0; steps = 0 })
                 (sym (zero-filled (mixed_digits (unlocked ms) r) (omega arith)));
-            full = e ∙ ap (λ k. cond (ltb (k - r) c) (k - r) c) (p.whole ∙ sym same);
+            full = e ∙ cut_is (total - r) c ∙ ap (λ k. cond (ltb (k - r) c) (k - r) c) (p.whole ∙ sym same);
           })
 
       pub resuming_given : (w resumed : Walk) → resumed ≡ filled_ahead stood → record { state = resumed; answer = given tt } ≡ resume_of w l c word

@@ -114,12 +114,6 @@ pub record Unloadable (w₀ : Walk) (tops rest left bytes entries : List ℕ) (a
 abbrev pub Unloaded : Walk → List ℕ → List ℕ → List ℕ → List ℕ → List ℕ → Stage → ℕ → Bool → Walk → Type 0
 Unloaded w₀ tops rest left bytes entries at made over r = (w : Walk) → Unloads w₀ tops rest left bytes entries at made over w → r ≡ w
 
--- ---- one stretch
-pub record Part (left r : ℕ) : Type 0 where
-  pub most : r ≤ 1024
-  pub within : r ≤ left
-  pub some : 0 < left → 0 < r
-
 -- ---- all of them
 pub record Callable (w₀ : Walk) (limit : ℕ) (out : List ℕ) : Type 0 where
   pub ranged : in_range w₀ ≡ true

@@ -6,8 +6,8 @@ ghost use Rattle.ahead_theory.specs.States.{moving_radices, counter_in_range, st
 ghost use Rattle.ahead.specs.Structs.{walk_as};
 ghost use Rattle.ahead.specs.Stages.{DigitNumbers, Known};
 
-use super::{COUNTER, Walk, wide};
-use gray::{Counted, DIGITS};
+use super::{COUNTER, Walk};
+use gray::DIGITS;
 
 // A place of the counter below its radix, or one past the n that count.
 fn below(n: u8, number: u8, m: u8, b: u8) -> bool
@@ -17,17 +17,15 @@ fn below(n: u8, number: u8, m: u8, b: u8) -> bool
 }
 
 // The counter's first n places. The loop goes over all, whatever n is, and gathers its tests with no way out in between: three
-// turns on vectors.
+// turns on vectors. The place's number is counted as a byte, since an index would be compared as 64 bits.
 fn places_below(n: u8, radices: [u8; DIGITS], counter: [u8; COUNTER]) -> bool
     ensures { result ≡ all_below (length (take n radices)) (λ i. ltb (get_or counter i 0) (get_or radices i 0)) }
 {
     let mut number: u8 = 0;
     let mut ok = true;
-    let mut i = 0;
-    while i < DIGITS {
+    for i in 0..DIGITS {
         number += 1;
         ok = ok & below(n, number, radices[i], counter[i]);
-        i += 1;
     }
     ok
 }
@@ -39,11 +37,9 @@ fn moving_below(radices: &[u8], numbers: &[u8], counter: &[u8]) -> bool
         (λ i. ltb (get_or counter.now i 0) (get_or (looked_up radices.now numbers.now) i 0)) }
 {
     let mut ok = true;
-    let mut i = 0;
-    while i < numbers.len() {
-        let d = wide(numbers[i]) - 1;
+    for (i, &number) in numbers.iter().enumerate() {
+        let d = usize::from(number) - 1;
         ok = ok & (counter[i] < radices[d]);
-        i += 1;
     }
     ok
 }
@@ -55,15 +51,14 @@ fn is_place(n: u8, i: u8) -> bool
     (1 <= i) & (i <= n + 1)
 }
 
-fn entries_in_range(n: u8, queue: &[u8], queued: usize) -> bool
-    requires { (n ≤ 48) × (queued ≤ length queue.now) }
-    ensures { result ≡ all_below queued (λ i. leb 1 (get_or queue.now i 0) && leb (get_or queue.now i 0) (n + 1)) }
+fn entries_in_range(n: u8, entries: &[u8]) -> bool
+    requires { n ≤ 48 }
+    ensures { result ≡ all_below (length entries.now)
+        (λ i. leb 1 (get_or entries.now i 0) && leb (get_or entries.now i 0) (n + 1)) }
 {
     let mut ok = true;
-    let mut i = 0;
-    while i < queued {
-        ok = ok & is_place(n, queue[i]);
-        i += 1;
+    for &entry in entries {
+        ok = ok & is_place(n, entry);
     }
     ok
 }
@@ -94,7 +89,7 @@ impl Walk {
         let producer = self.producer;
         let counter = producer.counter;
         let count = moving.count;
-        let len = wide(count);
+        let len = usize::from(count);
         let last = counter[len] < 2;
         if count == self.n {
             return places_below(count, radices, counter) & last;
@@ -110,11 +105,10 @@ impl Walk {
         if digit::MOST < n {
             return false;
         }
-        let len = wide(n);
         let radices = self.radices;
         let c = self.capacity;
-        let counted = gray::survey_size(&radices[..len], wide(c));
-        let Counted::Size(total) = counted else {
+        let counted = gray::survey_size(&radices[..usize::from(n)], usize::from(c));
+        let Ok(total) = counted else {
             return false;
         };
         let producer = self.producer;
@@ -128,11 +122,9 @@ impl Walk {
             return false;
         }
         let count = moving.count;
-        let word = self.word;
-        let downs = self.downs;
         let queue = producer.queue;
-        let notches = digit::digits_in_range(n, radices, word, downs);
-        let entries = entries_in_range(count, &queue, wide(queued));
+        let notches = digit::digits_in_range(n, radices, self.word, self.downs);
+        let entries = entries_in_range(count, &queue[..usize::from(queued)]);
         (notches & self.counter_in_range())
             & ((is_place(count, at.place) & entries)
                 & within(total, self.moves, self.ended, at.steps))

@@ -6,10 +6,10 @@ ghost use Rattle.ahead_theory.specs.Pickups.{resume_of};
 ghost use Rattle.ahead.specs.Pickups.{RankedWord, Standable, Stood, unfilled_with, Unfilled, filled_ahead};
 ghost use Rattle.ahead.specs.Structs.{walk_as, opened_as};
 
-use super::work::work;
-use super::{COUNTER, Opened, Producer, Progress, Walk, min, to_go, wide};
+use super::work::Places;
+use super::{COUNTER, Producer, Progress, Walk, starting, to_go};
 use digit::MovingDigits;
-use gray::{CAPACITY, Counted, DIGITS, Opening, Ranked};
+use gray::{DIGITS, Refusal};
 
 // Whether a digit goes down, by the rank of the slower digits, of which the parity will do, and its own digit of the rank, b:
 // it turns as it comes to its last.
@@ -43,16 +43,13 @@ fn stand(radices: &[u8], word: &[u8], rank: u64, counter: &mut [u8], downs: &mut
 {
     let mut p = (rank % 2) as u8;
     let mut place = 0;
-    let mut i = 0;
-    while i < radices.len() {
-        let m = radices[i];
+    for (i, &m) in radices.iter().enumerate() {
         let a = word[i];
         p = (p + a % 2) % 2;
         let b = to_go(m - 1, a, p % 2 == 0);
         counter[place] = b;
         downs[i] = goes_down(m, p, b);
         place = past(m, place);
-        i += 1;
     }
 }
 
@@ -68,9 +65,9 @@ fn unfilled(
     requires { (n ≤ 48) × RankedWord (take n radices) (take n word) rank }
     ensures { walk_as result ≡ unfilled_with radices n (moving_as moving) capacity word rank }
 {
-    let mut counter = [0u8; COUNTER];
+    let mut counter = [0; COUNTER];
     let mut downs = [false; DIGITS];
-    let len = wide(n);
+    let len = usize::from(n);
     stand(
         &radices[..len],
         &word[..len],
@@ -78,60 +75,41 @@ fn unfilled(
         &mut counter,
         &mut downs,
     );
-    let start = Progress {
-        place: 1,
-        queued: 0,
-        steps: 0,
-    };
-    let producer = Producer {
-        counter: counter,
-        at: start,
-        queue: [0; CAPACITY],
-    };
     Walk {
-        radices: radices,
-        n: n,
-        moving: moving,
-        word: word,
-        capacity: capacity,
-        downs: downs,
+        radices,
+        n,
+        moving,
+        word,
+        capacity,
+        downs,
         ended: false,
-        producer: producer,
+        producer: starting(counter),
         moves: rank,
     }
 }
 
 impl Walk {
-    // A survey picked up at a word (a setting). Refused: the state that came, and the number. Accepted: the state there with
+    // A survey picked up at a word (a setting). Refused: the state that came, and the refusal. Accepted: the state there with
     // its buffer filled ahead, whatever came.
-    pub fn resume(self, radices: &[u8], capacity: usize, word: &[u8]) -> Opened
+    pub fn resume(self, radices: &[u8], capacity: usize, word: &[u8]) -> (Walk, Result<(), Refusal>)
         ensures { opened_as result ≡ resume_of (walk_as self) radices.now capacity word.now }
     {
         let counted = gray::survey_size(radices, capacity);
-        let Counted::Size(total) = counted else {
-            return Opened {
-                walk: self,
-                answer: Opening::Refused(counted.number()),
-            };
+        let Ok(total) = counted else {
+            return (self, Err(counted.unwrap_err()));
         };
         let ranked = gray::rank(radices, word);
-        let Ranked::Rank(rank) = ranked else {
-            return Opened {
-                walk: self,
-                answer: Opening::Refused(ranked.number()),
-            };
+        let Ok(rank) = ranked else {
+            return (self, Err(ranked.unwrap_err()));
         };
         let n = radices.len();
         let digits = digit::reversed(radices);
         let moving = digit::moving(&digits[..n]);
         let notches = digit::reversed(word);
         let standing = unfilled(digits, n as u8, moving, capacity as u8, notches, rank);
-        let entries = min(total - rank, capacity as u64);
+        let entries = (total - rank).min(capacity as u64);
         let walk = standing.filled(entries as u8);
-        Opened {
-            walk: walk,
-            answer: Opening::Open,
-        }
+        (walk, Ok(()))
     }
 
     // The walk with its buffer filled ahead by work steps, up to so many entries: as many as there are places, or up to the end
@@ -140,50 +118,30 @@ impl Walk {
         requires { Unfilled (walk_as self) entries }
         ensures { walk_as result ≡ filled_ahead (walk_as self) }
     {
-        let c = self.capacity;
-        let n = self.n;
         let radices = self.radices;
-        let word = self.word;
-        let downs = self.downs;
         let moving = self.moving;
-        let count = moving.count;
         let numbers = moving.digits;
+        let places = Places {
+            radices: &radices,
+            numbers: &numbers,
+            n: self.n,
+            count: moving.count,
+            capacity: self.capacity,
+        };
         let producer = self.producer;
         let mut counter = producer.counter;
         let mut queue = producer.queue;
         let mut at = producer.at;
         while at.queued < entries {
-            at = work(
-                &radices,
-                &numbers,
-                n,
-                count,
-                c,
-                &mut counter,
-                &mut queue,
-                at,
-            );
+            at = places.work(&mut counter, &mut queue, at);
         }
-        let uncounted = Progress {
-            place: at.place,
-            queued: at.queued,
-            steps: 0,
-        };
-        let ahead = Producer {
-            counter: counter,
-            at: uncounted,
-            queue: queue,
-        };
         Walk {
-            radices: radices,
-            n: n,
-            moving: moving,
-            word: word,
-            capacity: c,
-            downs: downs,
-            ended: self.ended,
-            producer: ahead,
-            moves: self.moves,
+            producer: Producer {
+                counter,
+                at: Progress { steps: 0, ..at },
+                queue,
+            },
+            ..self
         }
     }
 }

@@ -1,90 +1,79 @@
 // A run of moves, on arrays of its own (crate `stretch`).
-ghost use Rattle.std.specs.Prelude.{◌≡◌, true, cond, eqb};
+ghost use Rattle.std.specs.Prelude.{◌≡◌, true, cond, eqb, Ok};
 ghost use Rattle.gray_theory.specs.RunCalls.{nothing, end};
 ghost use Rattle.gray.specs.Enums.{running_as};
 ghost use Rattle.ahead_theory.specs.States.{in_range};
 ghost use Rattle.ahead_theory.specs.Calls.{run_of};
+ghost use Rattle.stretch.specs.Stages.{stop_number};
 ghost use Rattle.ahead.specs.Structs.{walk_as, ran_as};
-ghost use Rattle.ahead.specs.Stretches.{Loadable, LoadedOne, Wide, Loaded, CounterFits, CounterBack, WordFits, WordBack, Unloadable, Unloaded, Part, Callable, Calls, Room, outcome_of, stop_by};
+ghost use Rattle.ahead.specs.Stretches.{Loadable, LoadedOne, Wide, Loaded, CounterFits, CounterBack, WordFits, WordBack, Unloadable, Unloaded, Callable, Calls, Room, outcome_of, stop_by};
 
-use super::{Producer, Progress, Ran, Walk, min, to_go, wide};
-use gray::{CAPACITY, Counted, Running};
-use stretch::Stage;
+use super::{Producer, Progress, Walk, to_go};
+use gray::{CAPACITY, Refusal, Running};
+use stretch::{PLACES, Stage, Stop};
 
-// Calls of a run: the state after them, how many moved, and what stopped them: nothing (0), the end of the walk (1), or a dry
-// call (2).
+// Calls of a run: the state after them, how many moved, and what stopped them, if anything did.
 #[derive(Clone, Copy)]
 struct Called {
     walk: Walk,
     made: usize,
-    stop: u8,
+    stop: Option<Stop>,
 }
 
-// The arrays for one digit that moves, at its place among those, and for the place of the counter with that number.
-fn load_digit(
-    i: usize,
-    m: u8,
-    b: u8,
-    number: u8,
-    a: u8,
-    down: bool,
-    tops: &mut [u8],
-    rest: &mut [u8],
-    left: &mut [u8],
-    bytes: &mut [u8],
-)
-    requires { Loadable i m b a × Wide tops.old rest.old left.old bytes.old }
-    ensures { LoadedOne i m b number a down tops.old rest.old left.old bytes.old
-        tops.new rest.new left.new bytes.new }
-{
-    let top = m - 1;
-    tops[i] = top;
-    rest[i] = top - b;
-    left[i] = to_go(top, a, down);
-    bytes[i] = digit::move_byte(number, down);
+// The arrays of a run, by places: the radices less 1, what is left to count, what the digit there has left to go in its
+// direction, and the byte of its next move. (Four arrays and none of structs: `stretch::run` takes them, and lets each be indexed
+// by any byte.)
+#[derive(Clone, Copy)]
+struct Lanes {
+    tops: [u8; PLACES],
+    rest: [u8; PLACES],
+    left: [u8; PLACES],
+    bytes: [u8; PLACES],
 }
 
-// The counter, by what is left to count at its places.
-fn counter_back(last: usize, tops: &[u8], rest: &[u8], counter: &mut [u8])
-    requires { CounterFits last tops.now rest.now counter.old }
-    ensures { CounterBack last tops.now rest.now counter.old counter.new }
-{
-    let mut i = 0;
-    while i < last {
-        let place = i + 1;
-        counter[i] = tops[place] - rest[place];
-        i = place;
+impl Lanes {
+    // One digit that moves, at its place among those, and the place of the counter with that number.
+    fn load_digit(&mut self, i: usize, m: u8, b: u8, number: u8, a: u8, down: bool)
+        requires { Loadable i m b a × Wide self.old.tops self.old.rest self.old.left self.old.bytes }
+        ensures { LoadedOne i m b number a down self.old.tops self.old.rest self.old.left self.old.bytes
+            self.new.tops self.new.rest self.new.left self.new.bytes }
+    {
+        let top = m - 1;
+        self.tops[i] = top;
+        self.rest[i] = top - b;
+        self.left[i] = to_go(top, a, down);
+        self.bytes[i] = digit::move_byte(number, down);
     }
-}
 
-// The word and the directions, by what the digits that move have left to go and by their next moves.
-fn word_back(
-    count: usize,
-    numbers: &[u8],
-    tops: &[u8],
-    left: &[u8],
-    bytes: &[u8],
-    word: &mut [u8],
-    downs: &mut [bool],
-)
-    requires { WordFits count numbers.now tops.now left.now bytes.now word.old downs.old }
-    ensures { WordBack count numbers.now tops.now left.now bytes.now
-        word.old downs.old word.new downs.new }
-{
-    let mut i = 0;
-    while i < count {
-        let place = i + 1;
-        let down = digit::move_down(bytes[place]);
-        let d = wide(numbers[i]) - 1;
-        word[d] = to_go(tops[place], left[place], down);
-        downs[d] = down;
-        i = place;
+    // The counter, by what is left to count at its places.
+    fn counter_back(&self, last: usize, counter: &mut [u8])
+        requires { CounterFits last self.now.tops self.now.rest counter.old }
+        ensures { CounterBack last self.now.tops self.now.rest counter.old counter.new }
+    {
+        for i in 0..last {
+            counter[i] = self.tops[i + 1] - self.rest[i + 1];
+        }
+    }
+
+    // The word and the directions, by what the digits that move have left to go and by their next moves.
+    fn word_back(&self, count: usize, numbers: &[u8], word: &mut [u8], downs: &mut [bool])
+        requires { WordFits count numbers.now self.now.tops self.now.left self.now.bytes word.old downs.old }
+        ensures { WordBack count numbers.now self.now.tops self.now.left self.now.bytes
+            word.old downs.old word.new downs.new }
+    {
+        for i in 0..count {
+            let place = i + 1;
+            let down = digit::move_down(self.bytes[place]);
+            let d = usize::from(numbers[i]) - 1;
+            word[d] = to_go(self.tops[place], self.left[place], down);
+            downs[d] = down;
+        }
     }
 }
 
 // What a run of t moves answers that makes no call or meets an ended walk.
 fn unmoved(t: u64) -> Running
-    ensures { running_as result ≡ outcome_of 0 (cond (eqb t 0) nothing end) }
+    ensures { running_as (Ok result) ≡ outcome_of 0 (cond (eqb t 0) nothing end) }
 {
     if t == 0 {
         return Running::Made(0);
@@ -94,109 +83,78 @@ fn unmoved(t: u64) -> Running
 
 // What a run of t moves answers whose calls were stopped so after so many moves. Fewer than t, though nothing stopped them, are
 // as many as there are before j = N.
-fn outcome(stop: u8, made: u64, t: u64) -> Running
-    ensures { running_as result ≡ outcome_of made (stop_by stop made t) }
+fn outcome(stop: Option<Stop>, made: u64, t: u64) -> Running
+    ensures { running_as (Ok result) ≡ outcome_of made (stop_by (stop_number stop) made t) }
 {
-    if stop == 1 {
-        return Running::Ended(made);
-    }
-    if stop == 2 {
-        return Running::Stopped(made, 10);
-    }
-    if made < t {
-        return Running::Stopped(made, 7);
-    }
-    Running::Made(made)
-}
-
-// The most calls that a stretch makes of those that are left.
-fn part(left: usize) -> usize
-    ensures { Part left result }
-{
-    if left < stretch::CALLS {
-        left
-    } else {
-        stretch::CALLS
+    match stop {
+        Some(Stop::End) => Running::Ended(made),
+        Some(Stop::Dry) => Running::Stopped(made, Refusal::Dry),
+        _ if made < t => Running::Stopped(made, Refusal::State),
+        _ => Running::Made(made),
     }
 }
 
 impl Walk {
-    // The arrays of a run from this state, by places: the radices less 1, what is left to count, what the digit there has left
-    // to go in its direction, and the byte of its next move.
-    fn load(self, tops: &mut [u8], rest: &mut [u8], left: &mut [u8], bytes: &mut [u8])
-        requires { (in_range (walk_as self) ≡ true) × Wide tops.old rest.old left.old bytes.old }
-        ensures { Loaded (walk_as self) tops.new rest.new left.new bytes.new }
+    // The arrays of a run from this state. (They are lent to it: a kilobyte handed back would be copied, which costs a short run
+    // a twentieth.)
+    fn load(self, lanes: &mut Lanes)
+        requires { in_range (walk_as self) ≡ true }
+        ensures { Loaded (walk_as self) lanes.new.tops lanes.new.rest lanes.new.left lanes.new.bytes }
     {
         let radices = self.radices;
         let moving = self.moving;
         let numbers = moving.digits;
-        let count = wide(moving.count);
+        let count = usize::from(moving.count);
         let word = self.word;
         let downs = self.downs;
         let producer = self.producer;
         let counter = producer.counter;
-        let mut i = 0;
-        while i < count {
+        for i in 0..count {
             let number = numbers[i];
-            let d = wide(number) - 1;
-            let m = radices[d];
-            let place = i + 1;
-            load_digit(
-                place, m, counter[i], number, word[d], downs[d], tops, rest, left, bytes,
-            );
-            i = place;
+            let d = usize::from(number) - 1;
+            lanes.load_digit(i + 1, radices[d], counter[i], number, word[d], downs[d]);
         }
-        let last = count + 1;
-        tops[last] = 1;
-        rest[last] = 1 - counter[count];
+        lanes.tops[count + 1] = 1;
+        lanes.rest[count + 1] = 1 - counter[count];
     }
 
     // The state that the arrays stand for.
     fn unload(
         self,
-        tops: &[u8],
-        rest: &[u8],
-        left: &[u8],
-        bytes: &[u8],
+        lanes: &Lanes,
         entries: [u8; CAPACITY],
         at: Stage,
         made: u64,
         ended: bool,
     ) -> Walk
-        requires { Unloadable (walk_as self) tops.now rest.now left.now bytes.now entries at made ended }
-        ensures { Unloaded (walk_as self) tops.now rest.now left.now bytes.now
+        requires { Unloadable (walk_as self) lanes.now.tops lanes.now.rest lanes.now.left lanes.now.bytes entries at made ended }
+        ensures { Unloaded (walk_as self) lanes.now.tops lanes.now.rest lanes.now.left lanes.now.bytes
             entries at made ended (walk_as result) }
     {
-        let radices = self.radices;
         let moving = self.moving;
         let numbers = moving.digits;
-        let count = wide(moving.count);
+        let count = usize::from(moving.count);
         let mut word = self.word;
         let mut downs = self.downs;
         let producer = self.producer;
         let mut counter = producer.counter;
-        word_back(count, &numbers, tops, left, bytes, &mut word, &mut downs);
-        counter_back(count + 1, tops, rest, &mut counter);
-        let reached = Progress {
-            place: at.place as u8,
-            queued: at.tail as u8,
-            steps: at.steps,
-        };
-        let ahead = Producer {
-            counter: counter,
-            at: reached,
-            queue: entries,
-        };
+        lanes.word_back(count, &numbers, &mut word, &mut downs);
+        lanes.counter_back(count + 1, &mut counter);
         Walk {
-            radices: radices,
-            n: self.n,
-            moving: moving,
-            word: word,
-            capacity: self.capacity,
-            downs: downs,
-            ended: ended,
-            producer: ahead,
+            word,
+            downs,
+            ended,
+            producer: Producer {
+                counter,
+                at: Progress {
+                    place: at.place as u8,
+                    queued: at.tail as u8,
+                    steps: at.steps,
+                },
+                queue: entries,
+            },
             moves: self.moves + made,
+            ..self
         }
     }
 
@@ -204,35 +162,37 @@ impl Walk {
     // range only once N moves are made, so that the range is not tested in between.
     fn calls(self, limit: usize, out: &mut [u8]) -> Called
         requires { Callable (walk_as self) limit out.old }
-        ensures { Calls (walk_as self) limit out.old out.new (walk_as result.walk) result.made result.stop }
+        ensures { Calls (walk_as self) limit out.old out.new (walk_as result.walk) result.made (stop_number result.stop) }
     {
         let moving = self.moving;
-        let last = wide(moving.count) + 1;
-        let c = wide(self.capacity);
-        let mut tops = [0u8; stretch::PLACES];
-        let mut rest = [0u8; stretch::PLACES];
-        let mut left = [0u8; stretch::PLACES];
-        let mut bytes = [0u8; stretch::PLACES];
-        self.load(&mut tops, &mut rest, &mut left, &mut bytes);
+        let last = usize::from(moving.count) + 1;
+        let c = usize::from(self.capacity);
+        let mut lanes = Lanes {
+            tops: [0; PLACES],
+            rest: [0; PLACES],
+            left: [0; PLACES],
+            bytes: [0; PLACES],
+        };
+        self.load(&mut lanes);
         let producer = self.producer;
         let mut entries = producer.queue;
         let from = producer.at;
         let mut at = Stage {
-            place: wide(from.place),
-            tail: wide(from.queued),
+            place: usize::from(from.place),
+            tail: usize::from(from.queued),
             steps: from.steps,
         };
         let mut done = 0;
-        let mut stop: u8 = 0;
-        while (done < limit) & (stop == 0) {
+        let mut stop = None;
+        while (done < limit) & stop.is_none() {
             let ran = stretch::run(
                 last,
                 c,
-                part(limit - done),
-                &tops,
-                &mut rest,
-                &mut left,
-                &mut bytes,
+                (limit - done).min(stretch::CALLS),
+                &lanes.tops,
+                &mut lanes.rest,
+                &mut lanes.left,
+                &mut lanes.bytes,
                 entries,
                 at,
                 done,
@@ -243,20 +203,11 @@ impl Walk {
             done += ran.made;
             stop = ran.stop;
         }
-        let walk = self.unload(
-            &tops,
-            &rest,
-            &left,
-            &bytes,
-            entries,
-            at,
-            done as u64,
-            stop == 1,
-        );
+        let walk = self.unload(&lanes, entries, at, done as u64, stop == Some(Stop::End));
         Called {
-            walk: walk,
+            walk,
             made: done,
-            stop: stop,
+            stop,
         }
     }
 
@@ -265,44 +216,32 @@ impl Walk {
         requires { in_range (walk_as self) ≡ true }
         ensures { Room (walk_as self) result }
     {
-        let n = wide(self.n);
+        let n = usize::from(self.n);
         let radices = self.radices;
         let counted = gray::size(&radices[..n]);
-        let Counted::Size(total) = counted else {
+        let Ok(total) = counted else {
             return 0;
         };
         total - self.moves
     }
 
     // A run of moves: at most t calls, up to the first that does not move. One byte a move in `out`, which has to hold t bytes.
-    pub fn run(self, t: u64, out: &mut [u8]) -> Ran
+    pub fn run(self, t: u64, out: &mut [u8]) -> (Walk, Result<Running, Refusal>)
         ensures { ran_as result out.new ≡ run_of (walk_as self) t out.old }
     {
         if !self.in_range() {
-            return Ran {
-                walk: self,
-                answer: Running::Refused(7),
-            };
+            return (self, Err(Refusal::State));
         }
         if (out.len() as u64) < t {
-            return Ran {
-                walk: self,
-                answer: Running::Refused(9),
-            };
+            return (self, Err(Refusal::Output));
         }
         if (t == 0) | self.ended {
-            return Ran {
-                walk: self,
-                answer: unmoved(t),
-            };
+            return (self, Ok(unmoved(t)));
         }
         let room = self.room();
-        let limit = min(t, room);
+        let limit = t.min(room);
         let called = self.calls(limit as usize, out);
-        let walk = called.walk;
-        Ran {
-            walk: walk,
-            answer: outcome(called.stop, called.made as u64, t),
-        }
+        let answer = outcome(called.stop, called.made as u64, t);
+        (called.walk, Ok(answer))
     }
 }

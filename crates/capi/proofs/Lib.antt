@@ -7,5 +7,3 @@ pub mod RunsTellApart
 pub mod FreshRuns
 -- laws
 pub mod Checked
--- laws that the proofs of several functions cite
-pub mod Writers

@@ -8,7 +8,7 @@ ghost use Rattle.gray_theory.specs.Locks.{moving_digits as movingDigitsOf, movin
 ghost use Rattle.gray_theory.specs.Arrays.{digit_array};
 ghost use Rattle.gray_theory.specs.MoveBytes.{move_byte, move_digit, move_down};
 ghost use Rattle.digit.specs.Advances.{advanced_from};
-ghost use Rattle.digit.specs.Moving.{moving_as, count_more, digits_more, found_more};
+ghost use Rattle.digit.specs.Moving.{moving_as};
 
 use gray::DIGITS;
 
@@ -22,11 +22,34 @@ pub struct Directed {
     pub down: bool,
 }
 
+impl Directed {
+    // The range rule for one digit of radix m.
+    fn in_range(self, m: u8) -> bool
+        ensures { result ≡ digit_in_range m self.digit self.down }
+    {
+        let top = if m == 0 { 0 } else { m - 1 };
+        (self.digit < m)
+            & (!((self.digit == 0) & self.down) & !((2 <= m) & ((self.digit == top) & !self.down)))
+    }
+
+    // A digit of radix m where it stands, with the direction that it goes on in, which turns at either end.
+    fn turned(self, m: u8) -> Directed
+        requires { 0 < m }
+        ensures { result ≡ record { digit = self.digit; down = turned_at m self.digit self.down } }
+    {
+        let end = (self.digit == 0) | (self.digit == m - 1);
+        Directed {
+            digit: self.digit,
+            down: if end { !self.down } else { self.down },
+        }
+    }
+}
+
 // A move as a byte: the digit in the low seven bits, the top bit set for down.
 pub fn move_byte(digit: u8, down: bool) -> u8
     ensures { result ≡ move_byte digit down }
 {
-    (digit & 127) | ((down as u8) << 7)
+    (digit & 127) | (u8::from(down) << 7)
 }
 
 pub fn move_digit(byte: u8) -> u8
@@ -41,24 +64,16 @@ pub fn move_down(byte: u8) -> bool
     byte >> 7 == 1
 }
 
-// The range rule for one digit.
-fn digit_in_range(m: u8, a: u8, down: bool) -> bool
-    ensures { result ≡ digit_in_range m a down }
-{
-    let top = if m == 0 { 0 } else { m - 1 };
-    (a < m) & (!((a == 0) & down) & !((2 <= m) & ((a == top) & !down)))
-}
-
 // A digit in range, or one past the n that count.
-fn passes(n: u8, number: u8, m: u8, a: u8, down: bool) -> bool
-    ensures { result ≡ (ltb n number || digit_in_range m a down) }
+fn passes(n: u8, number: u8, m: u8, digit: Directed) -> bool
+    ensures { result ≡ (ltb n number || digit_in_range m digit.digit digit.down) }
 {
-    (n < number) | digit_in_range(m, a, down)
+    (n < number) | digit.in_range(m)
 }
 
 // The range rule for the setting and the directions of n digits, which both engines keep; where n is over 48, of all that the
 // arrays hold. The loop goes over all places, whatever n is, and gathers its tests with no way out in between: three turns on
-// vectors. The place's number is counted as a byte, since an index would be compared as 64 bits.
+// vectors.
 pub fn digits_in_range(
     n: u8,
     radices: [u8; DIGITS],
@@ -67,22 +82,18 @@ pub fn digits_in_range(
 ) -> bool
     ensures { result ≡ digits_in_range (length (take n radices)) radices word downs }
 {
-    let mut number: u8 = 0;
     let mut ok = true;
-    let mut i = 0;
-    while i < DIGITS {
+    // Counted beside the index for speed: a number made of the index is compared as 64 bits, and the loop takes twice as long.
+    let mut number: u8 = 0;
+    for i in 0..DIGITS {
         number += 1;
-        ok = ok & passes(n, number, radices[i], word[i], downs[i]);
-        i += 1;
+        let digit = Directed {
+            digit: word[i],
+            down: downs[i],
+        };
+        ok &= passes(n, number, radices[i], digit);
     }
     ok
-}
-
-fn turned(m: u8, a: u8, down: bool) -> bool
-    requires { 0 < m }
-    ensures { result ≡ turned_at m a down }
-{
-    if (a == 0) | (a == m - 1) { !down } else { down }
 }
 
 // The move that both engines make: a digit goes one notch in its direction, which turns at either end. One that is locked or out of
@@ -90,60 +101,40 @@ fn turned(m: u8, a: u8, down: bool) -> bool
 pub fn advanced(m: u8, a: u8, down: bool) -> Directed
     ensures { result ≡ advanced_from m a down }
 {
+    let stands = Directed { digit: a, down };
     if m < 2 {
-        return Directed {
-            digit: a,
-            down: down,
-        };
+        return stands;
     }
-    if !digit_in_range(m, a, down) {
-        return Directed {
-            digit: a,
-            down: down,
-        };
+    if !stands.in_range(m) {
+        return stands;
     }
     let to = if down { a - 1 } else { a + 1 };
-    Directed {
-        digit: to,
-        down: turned(m, to, down),
-    }
+    Directed { digit: to, down }.turned(m)
 }
 
-// The digits of an engine's survey that move, in rising order, and how many they are.
+// The digits of an engine's survey that move, in rising order, and how many they are: an array and its count, since an engine's
+// state is a value of fixed memory.
 #[derive(Clone, Copy)]
 pub struct MovingDigits {
     pub digits: [u8; DIGITS],
     pub count: u8,
 }
 
-// One digit more: its number joins those that move if its radix is at least 2.
-fn joined(m: u8, digit: u8, to: &mut [u8], count: u8) -> u8
-    requires { (length to.old ≡ 48) × (count < 48) }
-    ensures { (result ≡ count_more m count) × (to.new ≡ digits_more m digit to.old count) }
-{
-    if 2 <= m {
-        to[count as usize] = digit;
-        return count + 1;
-    }
-    count
-}
-
 // The digits that move, of radices with digit 1 first; a 49th radix and later ones are left out.
 pub fn moving(radices: &[u8]) -> MovingDigits
     ensures { moving_as result ≡ movingDigitsOf (take 48 radices.now) }
 {
-    let mut digits = [0u8; DIGITS];
+    // The count stands apart from the digits for speed: in one struct with them it is stored and loaded again at each digit.
+    let mut digits = [0; DIGITS];
     let mut count: u8 = 0;
-    let n = radices.len();
-    let mut i = 0;
-    while (i < n) & (i < DIGITS) {
-        count = joined(radices[i], i as u8 + 1, &mut digits, count);
-        i += 1;
+    for i in 0..radices.len().min(DIGITS) {
+        let unlocked = 2 <= radices[i];
+        if unlocked {
+            digits[usize::from(count)] = i as u8 + 1;
+            count += 1;
+        }
     }
-    MovingDigits {
-        digits: digits,
-        count: count,
-    }
+    MovingDigits { digits, count }
 }
 
 // A digit that moves and is held at its own place, or one past the n that count.
@@ -157,37 +148,11 @@ fn moves(n: u8, number: u8, m: u8, held: u8) -> bool
 fn all_move(n: u8, radices: [u8; DIGITS], held: [u8; DIGITS]) -> bool
     ensures { result ≡ all_below (length (take n radices)) (λ i. leb 2 (get_or radices i 0) && eqb (get_or held i 0) (i + 1)) }
 {
-    let mut number: u8 = 0;
     let mut ok = true;
-    let mut i = 0;
-    while i < DIGITS {
-        number += 1;
-        ok = ok & moves(n, number, radices[i], held[i]);
-        i += 1;
+    for i in 0..DIGITS {
+        ok &= moves(n, i as u8 + 1, radices[i], held[i]);
     }
     ok
-}
-
-// How many digits that move have been met, and whether each of them is held at its place among them.
-#[derive(Clone, Copy)]
-struct Met {
-    count: usize,
-    ok: bool,
-}
-
-// One digit more.
-fn found(m: u8, number: u8, held: &[u8], seen: Met) -> Met
-    requires { seen.count < length held.now }
-    ensures { result ≡ found_more m number held.now seen }
-{
-    if m < 2 {
-        return seen;
-    }
-    let next = seen.count;
-    Met {
-        count: next + 1,
-        ok: seen.ok & (held[next] == number),
-    }
 }
 
 // The digits that are held to move are those that do, whichever they are.
@@ -195,23 +160,26 @@ fn are_moving(n: u8, radices: [u8; DIGITS], stored: MovingDigits) -> bool
     ensures { result ≡ moving_in_range (take n radices) (moving_as stored) }
 {
     let held = stored.digits;
-    let len = n as usize;
-    let mut met = Met { count: 0, ok: true };
-    let mut i = 0;
-    while (i < len) & (i < DIGITS) {
-        met = found(radices[i], i as u8 + 1, &held, met);
-        i += 1;
+    let mut met = 0;
+    let mut ok = true;
+    for i in 0..usize::from(n).min(DIGITS) {
+        let m = radices[i];
+        let number = i as u8 + 1;
+        if 2 <= m {
+            ok &= held[met] == number;
+            met += 1;
+        }
     }
-    met.ok & (met.count == stored.count as usize)
+    ok & (met == usize::from(stored.count))
 }
 
-// The range rule for the digits that move, of n radices with digit 1 first. Where as many are held as there are digits, each must move.
+// The range rule for the digits that move, of n radices with digit 1 first. Where as many are held as there are digits, each must
+// move.
 pub fn moving_in_range(n: u8, radices: [u8; DIGITS], stored: MovingDigits) -> bool
     ensures { result ≡ moving_in_range (take n radices) (moving_as stored) }
 {
     if (stored.count == n) & (n <= MOST) {
-        let held = stored.digits;
-        return all_move(n, radices, held);
+        return all_move(n, radices, stored.digits);
     }
     are_moving(n, radices, stored)
 }
@@ -220,12 +188,10 @@ pub fn moving_in_range(n: u8, radices: [u8; DIGITS], stored: MovingDigits) -> bo
 pub fn reversed(bytes: &[u8]) -> [u8; DIGITS]
     ensures { result ≡ digit_array bytes.now }
 {
-    let mut out = [0u8; DIGITS];
+    let mut out = [0; DIGITS];
     let n = bytes.len();
-    let mut i = 0;
-    while (i < n) & (i < DIGITS) {
+    for i in 0..n.min(DIGITS) {
         out[i] = bytes[n - 1 - i];
-        i += 1;
     }
     out
 }

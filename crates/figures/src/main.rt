@@ -5,19 +5,19 @@
 
 #![tactic(auto)]
 
-ghost use Rattle.std.specs.Prelude.{◌≡◌, ◌≤◌, ◌<◌, length};
+ghost use Rattle.std.specs.Prelude.{◌≤◌, ◌<◌, length};
 
 use ahead::Walk;
 use engines::Engine;
-use gray::{DIGITS, Opening, Ranked, Stepping, Written};
+use gray::{DIGITS, Refusal, Stepping};
 use towers::Towers;
 
 // How many words agreed with their rank, with the word of their rank and with the lister's.
 #[derive(Clone, Copy)]
 struct Tally {
-    ranks: u64,
-    words: u64,
-    lists: u64,
+    ranks: usize,
+    words: usize,
+    lists: usize,
 }
 
 // What agreed in a walk, and whether its last call answered the end.
@@ -28,6 +28,7 @@ struct Walked {
     ended: bool,
 }
 
+// (Each program has these few lines of its own: a crate for them would be no plainer.)
 fn print(text: &[u8]) {
     io::write_all(1, text);
 }
@@ -42,162 +43,101 @@ fn print_line(name: &[u8], n: u64) {
     print(b"\n");
 }
 
-// The bound spares callers a fact about the byte that they read.
-fn wide(x: u8) -> usize
-    ensures { (result ≡ x) × (result < 256) }
-{
-    x as usize
-}
-
-// What a comparison adds to a number of agreements.
-fn one(agrees: bool) -> u64
-    ensures { result ≤ 1 }
-{
-    if agrees { 1 } else { 0 }
-}
-
 // Each byte with a space before it.
 fn print_bytes(bytes: &[u8]) {
-    let mut i = 0;
-    while i < bytes.len() {
+    for &byte in bytes {
         print(b" ");
-        print_number(wide(bytes[i]) as u64);
-        i += 1;
+        print_number(u64::from(byte));
     }
 }
 
-// A decimal digit's value; at least 10 for any other byte.
-fn digit(byte: u8) -> u8 {
-    if byte < b'0' { 255 } else { byte - b'0' }
+// The value of a decimal digit below a radix.
+fn digit(byte: u8, radix: u8) -> Option<u8> {
+    let d = byte.checked_sub(b'0')?;
+    if d < radix { Some(d) } else { None }
 }
 
-// Takes the words from lines of n digits each, and gives how many; 0 unless they are such lines and just fill `words`.
-fn read_words(lines: &[u8], n: usize, radix: u8, words: &mut [u8]) -> u64 {
-    let mut total = 0;
-    let mut column = 0;
-    let mut at = 0;
-    let mut i = 0;
-    while i < lines.len() {
-        let d = digit(lines[i]);
-        let ends = lines[i] == b'\n';
-        i += 1;
-        if column < n {
-            if radix <= d {
-                return 0;
-            }
-            if words.len() <= at {
-                return 0;
-            }
-            words[at] = d;
-            at += 1;
-            column += 1;
-        } else {
-            if !ends {
-                return 0;
-            }
-            total += 1;
-            column = 0;
+// Takes the words from lines of n digits each, and gives how many; nothing unless they are such lines and just fill `words`.
+fn read_words(lines: &[u8], n: usize, radix: u8, words: &mut [u8]) -> Option<u64>
+    requires { (0 < n) × (n ≤ 48) }
+{
+    let total = lines.len() / (n + 1);
+    if (lines.len() % (n + 1) != 0) | (words.len() / n != total) | (words.len() % n != 0) {
+        return None;
+    }
+    for (line, word) in lines.chunks_exact(n + 1).zip(words.chunks_exact_mut(n)) {
+        for (place, &byte) in word.iter_mut().zip(line) {
+            *place = digit(byte, radix)?;
+        }
+        if line[n] != b'\n' {
+            return None;
         }
     }
-    if (column == 0) & (at == words.len()) {
-        total
-    } else {
-        0
-    }
-}
-
-fn starts_with(bytes: &[u8], word: &[u8]) -> bool {
-    if bytes.len() < word.len() {
-        return false;
-    }
-    let mut ok = true;
-    let mut i = 0;
-    while i < word.len() {
-        ok = ok & (bytes[i] == word[i]);
-        i += 1;
-    }
-    ok
-}
-
-fn has_rank(radices: &[u8], word: &[u8], rank: u64) -> bool {
-    match gray::rank(radices, word) {
-        Ranked::Rank(r) => r == rank,
-        Ranked::Refused(_) => false,
-    }
-}
-
-fn wrote(answer: Written, count: usize) -> bool {
-    match answer {
-        Written::Bytes(n) => n == count,
-        Written::Refused(_) => false,
-    }
+    Some(total as u64)
 }
 
 // Before the call the lent bytes are no digits of either list.
 fn is_word_of(radices: &[u8], word: &[u8], rank: u64) -> bool {
     let mut out = [9u8; DIGITS];
-    let answer = gray::word(radices, rank, &mut out);
-    wrote(answer, word.len()) & starts_with(&out, word)
+    let written = gray::word(radices, rank, &mut out);
+    (written == Ok(word.len())) & out.starts_with(word)
 }
 
 // The words one after another from rank 0. `whole` says whether the lister wrote them all.
 fn compare(radices: &[u8], words: &[u8], listed: &[u8], whole: bool) -> Tally
-    requires { (0 < length radices.now) × (length words.now ≤ length listed.now) }
+    requires { 0 < length radices.now }
 {
     let n = radices.len();
-    let mut agreed = Tally {
-        ranks: 0,
-        words: 0,
-        lists: 0,
-    };
-    let mut rank = 0;
-    let mut at = 0;
-    while n <= words.len() - at {
-        let next = at + n;
-        let word = &words[at..next];
-        agreed.ranks += one(has_rank(radices, word, rank));
-        agreed.words += one(is_word_of(radices, word, rank));
-        agreed.lists += one(whole & starts_with(&listed[at..], word));
-        rank += 1;
-        at = next;
+    Tally {
+        ranks: words
+            .chunks_exact(n)
+            .enumerate()
+            .filter(|(rank, word)| gray::rank(radices, *word) == Ok(*rank as u64))
+            .count(),
+        words: words
+            .chunks_exact(n)
+            .enumerate()
+            .filter(|(rank, word)| is_word_of(radices, *word, *rank as u64))
+            .count(),
+        lists: words
+            .chunks_exact(n)
+            .zip(listed.chunks_exact(n))
+            .filter(|(word, other)| whole && *word == *other)
+            .count(),
     }
-    agreed
 }
 
 // Here too the lent bytes are no digits before the call.
 fn hold_words(radices: &[u8], words: &[u8], total: u64)
-    requires { (0 < length radices.now) × (length words.now ≤ 384) }
+    requires { 0 < length radices.now }
 {
     let mut listed = [9u8; 384];
-    let answer = lister::list(radices, 0, total, &mut listed);
-    let agreed = compare(radices, words, &listed, wrote(answer, words.len()));
-    print_line(b"rank ", agreed.ranks);
-    print_line(b"word ", agreed.words);
-    print_line(b"list ", agreed.lists);
+    let written = lister::list(radices, 0, total, &mut listed);
+    let agreed = compare(radices, words, &listed, written == Ok(words.len()));
+    print_line(b"rank ", agreed.ranks as u64);
+    print_line(b"word ", agreed.words as u64);
+    print_line(b"list ", agreed.lists as u64);
 }
 
 // Whether a setting, with digit 1 first, is the word and zeros past its digits.
 fn is_setting_of(setting: [u8; DIGITS], word: &[u8]) -> bool {
-    starts_with(&setting, &digit::reversed(word))
+    setting == digit::reversed(word)
 }
 
 fn is_next(from: u8, to: u8, down: bool) -> bool {
     if down {
-        wide(to) + 1 == wide(from)
+        to.checked_add(1) == Some(from)
     } else {
-        wide(from) + 1 == wide(to)
+        from.checked_add(1) == Some(to)
     }
 }
 
 // Whether digit k goes one notch, down or up, from one word to that notch in the other, and every other digit stays.
 fn leads(from: &[u8], to: &[u8], k: u8, down: bool, notch: u8) -> bool {
-    if k == 0 {
+    if k == 0 || digit::MOST < k {
         return false;
     }
-    if digit::MOST < k {
-        return false;
-    }
-    let i = wide(k) - 1;
+    let i = usize::from(k) - 1;
     let mut setting = digit::reversed(from);
     let new = digit::reversed(to);
     let goes = is_next(setting[i], new[i], down);
@@ -205,23 +145,15 @@ fn leads(from: &[u8], to: &[u8], k: u8, down: bool, notch: u8) -> bool {
     (goes & (notch == new[i])) & is_setting_of(setting, to)
 }
 
-// Whether the answer is the move from a word to the one that `rest` starts with.
-fn is_move(answer: Stepping, word: &[u8], rest: &[u8]) -> bool {
-    let Stepping::Moved(k, down, notch) = answer else {
+// Whether the answer is the move from a word to the next, where there is one.
+fn is_move(answer: Result<Stepping, Refusal>, word: &[u8], next: Option<&[u8]>) -> bool {
+    let Some(to) = next else {
         return false;
     };
-    let n = word.len();
-    if rest.len() < n {
+    let Ok(Stepping::Moved(k, down, notch)) = answer else {
         return false;
-    }
-    leads(word, &rest[..n], k, down, notch)
-}
-
-fn is_end(answer: Stepping) -> bool {
-    match answer {
-        Stepping::End => true,
-        _ => false,
-    }
+    };
+    leads(word, to, k, down, notch)
 }
 
 // Makes one call at each word: the setting before it should be that word, and its answer the move to the next word or, at the
@@ -230,32 +162,31 @@ fn walk(opened: Engine, n: usize, words: &[u8]) -> Walked
     requires { 0 < n }
 {
     let mut engine = opened;
-    let mut settings = 0;
-    let mut moves = 0;
-    let mut ended = false;
-    let mut at = 0;
-    while n <= words.len() - at {
-        let next = at + n;
-        let word = &words[at..next];
-        settings += one(is_setting_of(engine.setting(), word));
-        let stepped = engine.step();
-        engine = stepped.engine;
-        let answer = stepped.answer;
-        moves += one(is_move(answer, word, &words[next..]));
-        ended = is_end(answer);
-        at = next;
+    let mut walked = Walked {
+        settings: 0,
+        moves: 0,
+        ended: false,
+    };
+    let mut others = words.chunks_exact(n);
+    others.next();
+    for word in words.chunks_exact(n) {
+        walked.settings += u64::from(is_setting_of(engine.setting(), word));
+        let (next, answer) = engine.step();
+        engine = next;
+        walked.moves += u64::from(is_move(answer, word, others.next()));
+        walked.ended = answer == Ok(Stepping::End);
     }
-    Walked {
-        settings: settings,
-        moves: moves,
-        ended: ended,
-    }
+    walked
 }
 
-fn print_walk(opening: Opening, walked: Walked) {
-    if let Opening::Refused(_) = opening {
+fn hold_engine(name: &[u8], opened: Result<(), Refusal>, engine: Engine, n: usize, words: &[u8])
+    requires { 0 < n }
+{
+    print(name);
+    if opened.is_err() {
         print(b"refused, ");
     }
+    let walked = walk(engine, n, words);
     print(b"settings ");
     print_number(walked.settings);
     print(b", moves ");
@@ -268,25 +199,20 @@ fn print_walk(opening: Opening, walked: Walked) {
 }
 
 // The buffer has half as many places as there are digits, rounded up.
-fn hold_buffered(radices: &[u8], words: &[u8])
+fn hold_engines(radices: &[u8], words: &[u8])
     requires { 0 < length radices.now }
 {
     let n = radices.len();
-    let opened = Walk::closed().open(radices, n - n / 2);
-    let answer = opened.answer;
-    let fresh = opened.walk;
-    print(b"buffered engine: ");
-    print_walk(answer, walk(Engine::of_walk(fresh), n, words));
-}
-
-fn hold_disks(radices: &[u8], words: &[u8])
-    requires { 0 < length radices.now }
-{
-    let opened = Towers::closed().open(radices);
-    let answer = opened.answer;
-    let fresh = opened.towers;
-    print(b"disk engine: ");
-    print_walk(answer, walk(Engine::of_towers(fresh), radices.len(), words));
+    let (buffered, opened) = Walk::closed().open(radices, n.div_ceil(2));
+    hold_engine(
+        b"buffered engine: ",
+        opened,
+        Engine::of_walk(buffered),
+        n,
+        words,
+    );
+    let (disks, opened) = Towers::closed().open(radices);
+    hold_engine(b"disk engine: ", opened, Engine::of_towers(disks), n, words);
 }
 
 fn print_heading(figure: &[u8], radices: &[u8], total: u64) {
@@ -299,12 +225,11 @@ fn print_heading(figure: &[u8], radices: &[u8], total: u64) {
 }
 
 fn hold_list(figure: &[u8], radices: &[u8], words: &[u8], total: u64)
-    requires { (0 < length radices.now) × (length words.now ≤ 384) }
+    requires { 0 < length radices.now }
 {
     print_heading(figure, radices, total);
     hold_words(radices, words, total);
-    hold_buffered(radices, words);
-    hold_disks(radices, words);
+    hold_engines(radices, words);
 }
 
 // The text is 64 lines of six digits and 81 of four, 853 bytes; there is room for one more, so that a longer text is noticed.
@@ -315,10 +240,11 @@ fn main() {
     let mut threes = [9u8; 324];
     let first = read_words(&text[0..448], 6, 2, &mut twos);
     let second = read_words(&text[448..853], 4, 3, &mut threes);
-    if (got != 853) | (first == 0) | (second == 0) {
-        print(b"unread\n");
-        return;
+    match (first, second) {
+        (Some(m), Some(k)) if got == 853 => {
+            hold_list(b"figure 1a", b"\x02\x02\x02\x02\x02\x02", &twos, m);
+            hold_list(b"figure 1b", b"\x03\x03\x03\x03", &threes, k);
+        }
+        _ => print(b"unread\n"),
     }
-    hold_list(b"figure 1a", b"\x02\x02\x02\x02\x02\x02", &twos, first);
-    hold_list(b"figure 1b", b"\x03\x03\x03\x03", &threes, second);
 }

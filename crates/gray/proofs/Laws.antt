@@ -17,16 +17,17 @@ use Rattle.gray_theory.specs.Calls.{size_call, rank_call, word_call}
 use Rattle.gray_theory.specs.Faults.{Fault.count, Fault.radix, Fault.many, Fault.none}
 use Rattle.gray_theory.proofs.Faults.{lowest_fault_is_given}
 use Rattle.gray_theory.proofs.Refusals.{accepted, radices_accepted}
+use Rattle.std.specs.Prelude.{Option, Some, None}
+use Rattle.std.specs.Option.{ok_or}
+use Rattle.std.specs.Bool.{MatchBool}
+use Rattle.std.specs.List.{AllWithin, HoldsAt}
+use Rattle.gray.specs.Enums.{answer_as}
+use Rattle.gray.specs.declared.Refusal.TheVariants.{Word}
 use Rattle.gray.specs.Stages.{product_as, Multiplied, digit_as, two_as, pair_as, place_as}
-use Rattle.gray.specs.declared.Place.{Place}
-use Rattle.gray.specs.declared.Place.TheVariants.{At, NoWord}
-use Rattle.gray.specs.declared.Digit.TheVariants.{Below, Wrong}
-use Rattle.gray.specs.declared.Product.{Product}
-use Rattle.gray.specs.declared.Product.TheVariants.{Within, Over}
 use Rattle.gray_theory.specs.Words.{is_word, reflect, rank, member}
 use Rattle.gray_theory.specs.Indexed.{word_at}
 use Rattle.gray_theory.proofs.Members.{member_is_word_at, length-word_at}
-use Rattle.gray_theory.proofs.Digits.{digits_more_lem, size_taken}
+use Rattle.gray_theory.proofs.Digits.{digits_more_lem, radix_from, size_taken}
 use Rattle.gray_theory.proofs.Ranking.{two_as_one, two_below, below_more, below_all, rank_more, rank_all, not_below, word_refused, word_ranked}
 use Rattle.gray_theory.proofs.Sizes.{size-append, size_pos, size_none}
 use Rattle.gray_theory.specs.Bools.{impossible}
@@ -40,27 +41,39 @@ pub tested_more : (k : ℕ) (l : List ℕ) (i : ℕ) (ok : Bool)
 unfolding all_from
 tested_more k l i ok h e = rw (digits_more_lem l i h) (ap (λ t. leb k (get_or l i 0) && t) e)
 
-pub tested_all : (k : ℕ) (l : List ℕ) (i : ℕ) (ok : Bool)
-    → length l ≤ i
-    → ok ≡ all_from k (digits (take i l))
-    → ok ≡ all_from k (digits l)
-tested_all k l i ok h e = e ∙ ap (λ t. all_from k (digits t)) (take_all i l h)
+-- each radix by itself, and all of them
+tested_to : (k : ℕ) (l : List ℕ) (i : ℕ) → i ≤ length l → AllWithin (λ m. k ≤ m) l 0 (length l) → true ≡ all_from k (digits (take i l))
+unfolding all_from
+tested_to k l zero h w = refl
+tested_to k l (suc i) h w =
+    sym (ap (λ t. t && true) (le-leb k (get_or l i 0) (w i 0 (omega arith) (omega arith))))
+    ∙ tested_more k l i true (omega arith) (tested_to k l i (omega arith) w)
+    ∙ ap (λ j. all_from k (digits (take j l))) (add-one i)
+
+pub tested_by_each : (l : List ℕ) (r : Bool)
+    → MatchBool r (AllWithin (λ m. 1 ≤ m) l 0 (length l)) ((i : ℕ) × (i < length l) × HoldsAt (λ m. m < 1) l i)
+    → r ≡ all_from 1 (digits l)
+tested_by_each l true w = tested_to 1 l (length l) (omega arith) w ∙ ap (λ t. all_from 1 (digits t)) (take_all (length l) l (omega arith))
+tested_by_each l false (i, h, low) =
+    sym
+    (never_true (all_from 1 (digits l))
+    (λ e. let least = radix_from 1 l i h e in let none : get_or l i 0 < 1 = low 0 in absurd (omega arith)))
 
 -- ---- products within 2^62 and over it
-pub within : (n : ℕ) → n ≤ 2 ^ 62 → Within n ≡ product_as n
+pub within : (n : ℕ) → n ≤ 2 ^ 62 → Some n ≡ product_as n
 within n h = rw (le-ltb (2 ^ 62) n h)
 
-pub over : (n : ℕ) → 2 ^ 62 < n → Over ≡ product_as n
+pub over : (n : ℕ) → 2 ^ 62 < n → None ≡ product_as n
 over n h = rw (lt-ltb (2 ^ 62) n h)
 
-within_says : (n q : ℕ) → product_as n ≡ Within q → (q ≡ n) × (q ≤ 2 ^ 62)
+within_says : (n q : ℕ) → product_as n ≡ Some q → (q ≡ n) × (q ≤ 2 ^ 62)
 within_says n q e = go (ltb (2 ^ 62) n) refl
   where
     go : (b : Bool) → ltb (2 ^ 62) n ≡ b → (q ≡ n) × (q ≤ 2 ^ 62)
     go true t = impossible (cc)
     go false t = let same : q ≡ n = cc in let small = ltb-false (2 ^ 62) n t in (same, omega arith)
 
-over-says : (n : ℕ) → product_as n ≡ Over → 2 ^ 62 < n
+over-says : (n : ℕ) → product_as n ≡ None → 2 ^ 62 < n
 over-says n e = go (ltb (2 ^ 62) n) refl
   where
     go : (b : Bool) → ltb (2 ^ 62) n ≡ b → 2 ^ 62 < n
@@ -131,13 +144,13 @@ module _ (l : List ℕ) (p q i : ℕ) (so : Taken l p i) (more : i < length l) w
         ∙ ap₂ (λ (x y : ℕ). x * y) (next ∙ ap (λ k. size (digits (take k (drop i l)))) eight) so.whole
         ∙ sym (ap size parts ∙ size-append (digits (take 8 (drop i l))) (digits (take i l)))
 
-    pub taken_more : (r : ℕ) → product_as (p * q) ≡ Within r → Taken l r (i + 8)
+    pub taken_more : (r : ℕ) → product_as (p * q) ≡ Some r → Taken l r (i + 8)
     taken_more r w =
         let said = within_says (p * q) r w in
         let t = so.eights in
         record { count = eight_more; eights = omega arith; whole = said.0 ∙ multiplied; limit = said.1 }
 
-    pub taken_over : product_as (p * q) ≡ Over → all_from 1 (digits l) ≡ true → 2 ^ 62 < size (digits l)
+    pub taken_over : product_as (p * q) ≡ None → all_from 1 (digits l) ≡ true → 2 ^ 62 < size (digits l)
     taken_over o least =
         let large = over-says (p * q) o in
         let part = size_taken l (i + 8) least in
@@ -161,20 +174,20 @@ module _ (l : List ℕ) where
     unfolding size_call
     radix_refused f = sym (lowest_fault_is_given (digits l) (radix (sym same_count ∙ counted) (ap not f)) (given (size (digits l))))
 
-    module _ (r : Product) (made : Multiplied l r) where
+    module _ (r : Option ℕ) (made : Multiplied l r) where
       -- a product that is 0 has a radix that is 0, and one that is not has none
-      pub zero_refused : (n : ℕ) → r ≡ Within n → n ≡ 0 → refused 3 ≡ size_call l
+      pub zero_refused : (n : ℕ) → r ≡ Some n → n ≡ 0 → refused 3 ≡ size_call l
       zero_refused n e nil =
           let same = (subst (Multiplied l) e made).0 in
           radix_refused (never_true (all_from 1 (digits l)) (λ f. let some = size_pos (digits l) f in absurd (omega arith)))
 
-      pub size_refused : r ≡ Over → all_from 1 (digits l) ≡ true → refused 4 ≡ size_call l
+      pub size_refused : r ≡ None → all_from 1 (digits l) ≡ true → refused 4 ≡ size_call l
       unfolding size_call
       size_refused e f =
           let over = lt-ltb (2 ^ 62) (size (digits l)) (subst (Multiplied l) e made f) in
           sym (lowest_fault_is_given (digits l) (many (sym same_count ∙ counted) (ap not f) over) (given (size (digits l))))
 
-      pub size_given : (n : ℕ) → r ≡ Within n → (n ≡ 0 → ⊥) → given n ≡ size_call l
+      pub size_given : (n : ℕ) → r ≡ Some n → (n ≡ 0 → ⊥) → given n ≡ size_call l
       unfolding size_call
       size_given n e some =
           let (same, within) = subst (Multiplied l) e made in
@@ -184,20 +197,20 @@ module _ (l : List ℕ) where
           ∙ sym (lowest_fault_is_given (digits l) (none (sym same_count ∙ counted) (ap not least) small) (given (size (digits l))))
 
 -- ---- digit_at and pair_at
-pub digit_is_below : (m a : ℕ) → a < m → Below m a ≡ digit_as m a
+pub digit_is_below : (m a : ℕ) → a < m → Some (m, a) ≡ digit_as m a
 digit_is_below m a h = rw (lt-ltb a m h)
 
-pub digit_is_wrong : (m a : ℕ) → m ≤ a → Wrong ≡ digit_as m a
+pub digit_is_wrong : (m a : ℕ) → m ≤ a → None ≡ digit_as m a
 digit_is_wrong m a h = rw (le-ltb a m h)
 
-below_says : (m a x y : ℕ) → digit_as m a ≡ Below x y → (x ≡ m) × (y ≡ a) × (a < m)
+below_says : (m a x y : ℕ) → digit_as m a ≡ Some (x, y) → (x ≡ m) × (y ≡ a) × (a < m)
 below_says m a x y e = go (ltb a m) refl
   where
     go : (b : Bool) → ltb a m ≡ b → (x ≡ m) × (y ≡ a) × (a < m)
-    go true t = (cc, cc, ltb-true a m t)
+    go true t = let same : ◌≡◌ {A = ℕ × ℕ} (x, y) (m, a) = cc in (ap (λ p. p.0) same, ap (λ p. p.1) same, ltb-true a m t)
     go false t = impossible (cc)
 
-wrong_says : (m a : ℕ) → digit_as m a ≡ Wrong → ltb a m ≡ false
+wrong_says : (m a : ℕ) → digit_as m a ≡ None → ltb a m ≡ false
 wrong_says m a e = go (ltb a m) refl
   where
     go : (b : Bool) → ltb a m ≡ b → ltb a m ≡ false
@@ -205,15 +218,15 @@ wrong_says m a e = go (ltb a m) refl
     go false t = t
 
 module _ (l w : List ℕ) (i : ℕ) where
-  pub slow_wrong : digit_as (get_or l i 0) (get_or w i 0) ≡ Wrong → Wrong ≡ pair_as l w i
+  pub slow_wrong : digit_as (get_or l i 0) (get_or w i 0) ≡ None → None ≡ pair_as l w i
   slow_wrong e = rw (wrong_says (get_or l i 0) (get_or w i 0) e)
 
-  pub fast_wrong : digit_as (get_or l (i + 1) 0) (get_or w (i + 1) 0) ≡ Wrong → Wrong ≡ pair_as l w i
+  pub fast_wrong : digit_as (get_or l (i + 1) 0) (get_or w (i + 1) 0) ≡ None → None ≡ pair_as l w i
   fast_wrong e = rw (wrong_says (get_or l (i + 1) 0) (get_or w (i + 1) 0) e, and-false (ltb (get_or w i 0) (get_or l i 0)))
 
   module _ (m a k b : ℕ)
-      (slow : digit_as (get_or l i 0) (get_or w i 0) ≡ Below m a)
-      (fast : digit_as (get_or l (i + 1) 0) (get_or w (i + 1) 0) ≡ Below k b) where
+      (slow : digit_as (get_or l i 0) (get_or w i 0) ≡ Some (m, a))
+      (fast : digit_as (get_or l (i + 1) 0) (get_or w (i + 1) 0) ≡ Some (k, b)) where
     pub fast_below : b < k
     fast_below = let (e, f, h) = below_says (get_or l (i + 1) 0) (get_or w (i + 1) 0) k b fast in omega arith
 
@@ -227,7 +240,7 @@ module _ (l w : List ℕ) (i : ℕ) where
         let r = two_below m a k b (omega arith) fast_below in
         (omega arith, omega arith)
 
-    pub two_given : (r : ℕ) → r ≡ reflect k a b → Below (m * k) (a * k + r) ≡ pair_as l w i
+    pub two_given : (r : ℕ) → r ≡ reflect k a b → Some (m * k, a * k + r) ≡ pair_as l w i
     two_given r same =
         let (d, e, slower) = below_says (get_or l i 0) (get_or w i 0) m a slow in
         let (f, g, faster) = below_says (get_or l (i + 1) 0) (get_or w (i + 1) 0) k b fast in
@@ -242,13 +255,15 @@ pub record RankedTo (l w : List ℕ) (i p : ℕ) : Type 0 where
   pub whole : p ≡ rank (digits (take i l)) (digits (take i w))
 
 two_says : (m a k b x y : ℕ)
-    → two_as m a k b ≡ Below x y
+    → two_as m a k b ≡ Some (x, y)
     → (ltb a m ≡ true) × (ltb b k ≡ true) × (x ≡ m * k) × (y ≡ a * k + reflect k a b)
 two_says m a k b x y e = go (ltb a m) (ltb b k) refl refl
   where
     go : (s t : Bool) → ltb a m ≡ s → ltb b k ≡ t
         → (ltb a m ≡ true) × (ltb b k ≡ true) × (x ≡ m * k) × (y ≡ a * k + reflect k a b)
-    go true true f g = (f, g, cc, cc)
+    go true true f g =
+        let same : ◌≡◌ {A = ℕ × ℕ} (x, y) (m * k, a * k + reflect k a b) = cc in
+        (f, g, ap (λ p. p.0) same, ap (λ p. p.1) same)
     go true false f g = impossible (cc)
     go false t f g = impossible (cc)
 
@@ -258,7 +273,7 @@ ranked_none l w i p e f g = rw (e, f) (record { count = omega arith; pairs = ome
 
 module _ (l w : List ℕ) (same : length w ≡ length l) where
   -- one digit more
-  pub ranked_first : (i p m : ℕ) → i ≡ 1 → length l % 2 ≡ i → digit_as (get_or l 0 0) (get_or w 0 0) ≡ Below m p → RankedTo l w i p
+  pub ranked_first : (i p m : ℕ) → i ≡ 1 → length l % 2 ≡ i → digit_as (get_or l 0 0) (get_or w 0 0) ≡ Some (m, p) → RankedTo l w i p
   unfolding is_word rank
   ranked_first i p m e odd first =
       let (f, g, below) = below_says (get_or l 0 0) (get_or w 0 0) m p first in
@@ -280,7 +295,7 @@ module _ (l w : List ℕ) (same : length w ≡ length l) where
     pub pair_more : i + 1 < length l
     pair_more = let t = so.pairs in omega arith
 
-    module _ (pair : pair_as l w i ≡ Below x y) where
+    module _ (pair : pair_as l w i ≡ Some (x, y)) where
       told : (ltb (get_or w i 0) (get_or l i 0) ≡ true) × (ltb (get_or w (i + 1) 0) (get_or l (i + 1) 0) ≡ true)
           × (x ≡ get_or l i 0 * get_or l (i + 1) 0)
           × (y ≡ get_or w i 0 * get_or l (i + 1) 0 + reflect (get_or l (i + 1) 0) (get_or w i 0) (get_or w (i + 1) 0))
@@ -307,7 +322,7 @@ module _ (l w : List ℕ) (same : length w ≡ length l) where
             whole = rw (sym two, e, f, g) (sym (two_as_one p _ _ _ _ (ltb-true _ _ slow) (ltb-true _ _ fast)) ∙ second);
           }
 
-  pub pair_wrong : (i : ℕ) → i + 1 < length l → pair_as l w i ≡ Wrong → is_word (digits l) (digits w) ≡ false
+  pub pair_wrong : (i : ℕ) → i + 1 < length l → pair_as l w i ≡ None → is_word (digits l) (digits w) ≡ false
   pair_wrong i h e = go (ltb (get_or w i 0) (get_or l i 0)) (ltb (get_or w (i + 1) 0) (get_or l (i + 1) 0)) refl refl
     where
       go : (s t : Bool) → ltb (get_or w i 0) (get_or l i 0) ≡ s → ltb (get_or w (i + 1) 0) (get_or l (i + 1) 0) ≡ t → is_word (digits l) (digits w) ≡ false
@@ -315,28 +330,24 @@ module _ (l w : List ℕ) (same : length w ≡ length l) where
       go true false f g = not_below l w (i + 1) h (ltb-false _ _ g)
       go false t f g = not_below l w i (omega arith) (ltb-false _ _ f)
 
-  pub ranked_all : (i p : ℕ) → RankedTo l w i p → length l ≤ i → At p ≡ place_as l w
+  pub ranked_all : (i p : ℕ) → RankedTo l w i p → length l ≤ i → Some p ≡ place_as l w
   ranked_all i p so h =
       let one = below_all l w same i true h (sym so.one) in
-      rw (sym one) (ap At (rank_all l w same i p h so.whole))
+      rw (sym one) (ap Some (rank_all l w same i p h so.whole))
 
-pub no_place : (l w : List ℕ) → is_word (digits l) (digits w) ≡ false → NoWord ≡ place_as l w
+pub no_place : (l w : List ℕ) → is_word (digits l) (digits w) ≡ false → None ≡ place_as l w
 no_place l w e = rw e
 
-pub wrong_over : (m a : ℕ) → digit_as m a ≡ Wrong → m ≤ a
+pub wrong_over : (m a : ℕ) → digit_as m a ≡ None → m ≤ a
 wrong_over m a e = ltb-false a m (wrong_says m a e)
 
 -- ---- rank
-module _ (l w : List ℕ) (n : ℕ) (size_is : size_call l ≡ given n) (r : Place) (found : r ≡ place_as l w) where
-  pub no_word_refused : r ≡ NoWord → refused 8 ≡ rank_call l w
-  no_word_refused e = word_refused l w n size_is (never_true (is_word (digits l) (digits w)) (λ f. impossible (cc)))
-
-  pub rank_given : (p : ℕ) → r ≡ At p → given p ≡ rank_call l w
-  rank_given p e = go (is_word (digits l) (digits w)) refl
-    where
-      go : (b : Bool) → is_word (digits l) (digits w) ≡ b → given p ≡ rank_call l w
-      go true f = let same : p ≡ rank (digits l) (digits w) = cc in ap given same ∙ word_ranked l w n size_is f
-      go false f = impossible (cc)
+pub rank_answered : (l w : List ℕ) (n : ℕ) → size_call l ≡ given n → answer_as (ok_or (place_as l w) Word) ≡ rank_call l w
+rank_answered l w n size_is = go (is_word (digits l) (digits w)) refl
+  where
+    go : (b : Bool) → is_word (digits l) (digits w) ≡ b → answer_as (ok_or (place_as l w) Word) ≡ rank_call l w
+    go true f = rw f (word_ranked l w n size_is f)
+    go false f = rw f (word_refused l w n size_is f)
 
 -- ---- put_word
 drop_stored : (out : List ℕ) (i a : ℕ) → i < length out → drop i (set out i a) ≡ a ∷ drop (suc i) out

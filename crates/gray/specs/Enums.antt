@@ -1,44 +1,43 @@
--- The answer enums in document 01's terms: the values, or the number of the refusal, for each case.
-use Rattle.std.specs.Prelude.{ℕ}
+-- The answers in document 01's terms: the values, or the number of the refusal, for each case.
+use Rattle.std.specs.Prelude.{ℕ, Result, Ok, Err}
 use Rattle.gray_theory.specs.Answers.{Answer, given, refused}
 use Rattle.gray_theory.specs.Engines.{Event, moved, ended}
 use Rattle.gray_theory.specs.RunCalls.{Outcome, nothing, end, refusal}
-use Rattle.gray.specs.declared.Counted.{Counted}
-use Rattle.gray.specs.declared.Counted.TheVariants.{Size, Refused}
-use Rattle.gray.specs.declared.Ranked.{Ranked}
-use Rattle.gray.specs.declared.Ranked.TheVariants.{Rank, Refused as RankRefused}
-use Rattle.gray.specs.declared.Written.{Written}
-use Rattle.gray.specs.declared.Written.TheVariants.{Bytes, Refused as WriteRefused}
-use Rattle.gray.specs.declared.Opening.{Opening}
-use Rattle.gray.specs.declared.Opening.TheVariants.{Open, Refused as OpenRefused}
+use Rattle.gray.specs.declared.Refusal.{Refusal}
+use Rattle.gray.specs.declared.Refusal.TheVariants.{Layout, Digits, Radix, Size, Capacity, Game, State, Word, Output, Dry, Log, Line, Order}
 use Rattle.gray.specs.declared.Stepping.{Stepping}
-use Rattle.gray.specs.declared.Stepping.TheVariants.{Moved, End, Refused as StepRefused}
+use Rattle.gray.specs.declared.Stepping.TheVariants.{Moved, End}
 use Rattle.gray.specs.declared.Running.{Running}
-use Rattle.gray.specs.declared.Running.TheVariants.{Made, Ended, Stopped, Refused as RunRefused}
+use Rattle.gray.specs.declared.Running.TheVariants.{Made, Ended, Stopped}
 
-abbrev pub counted_as : Counted → Answer ℕ
-counted_as (Size n) = given n
-counted_as (Refused k) = refused k
+-- the numbers that documents 01 and 02 give
+abbrev pub refusal_number : Refusal → ℕ
+refusal_number Layout = 1
+refusal_number Digits = 2
+refusal_number Radix = 3
+refusal_number Size = 4
+refusal_number Capacity = 5
+refusal_number Game = 6
+refusal_number State = 7
+refusal_number Word = 8
+refusal_number Output = 9
+refusal_number Dry = 10
+refusal_number Log = 11
+refusal_number Line = 12
+refusal_number Order = 13
 
-abbrev pub ranked_as : Ranked → Answer ℕ
-ranked_as (Rank r) = given r
-ranked_as (RankRefused k) = refused k
+-- a value that is given as it is, or a refusal
+abbrev pub answer_as : {A : Type 0} → Result A Refusal → Answer A
+answer_as (Ok a) = given a
+answer_as (Err r) = refused (refusal_number r)
 
-abbrev pub written_as : Written → Answer ℕ
-written_as (Bytes n) = given n
-written_as (WriteRefused k) = refused k
+abbrev pub stepping_as : Result Stepping Refusal → Answer Event
+stepping_as (Ok (Moved k d a)) = given (moved (record { digit = k; down = d }) a)
+stepping_as (Ok End) = given ended
+stepping_as (Err r) = refused (refusal_number r)
 
-abbrev pub opening_as : Opening → Answer Unit
-opening_as Open = given tt
-opening_as (OpenRefused k) = refused k
-
-abbrev pub stepping_as : Stepping → Answer Event
-stepping_as (Moved k d a) = given (moved (record { digit = k; down = d }) a)
-stepping_as End = given ended
-stepping_as (StepRefused k) = refused k
-
-abbrev pub running_as : Running → Answer Outcome
-running_as (Made t) = given (record { made = t; stop = nothing })
-running_as (Ended k) = given (record { made = k; stop = end })
-running_as (Stopped k x) = given (record { made = k; stop = refusal x })
-running_as (RunRefused x) = refused x
+abbrev pub running_as : Result Running Refusal → Answer Outcome
+running_as (Ok (Made t)) = given (record { made = t; stop = nothing })
+running_as (Ok (Ended k)) = given (record { made = k; stop = end })
+running_as (Ok (Stopped k r)) = given (record { made = k; stop = refusal (refusal_number r) })
+running_as (Err r) = refused (refusal_number r)

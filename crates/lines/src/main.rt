@@ -3,78 +3,59 @@
 
 #![tactic(auto)]
 
-ghost use Rattle.std.specs.Prelude.{min, ℕ, ◌≡◌, ◌≢◌, ◌≤◌, ◌<◌, slice_index, length};
-ghost use Rattle.io.specs.Counts.{IsPrefixLen};
+ghost use Rattle.std.specs.Prelude.{◌≤◌, length, IfOk};
 
-use gray::{DIGITS, Written};
+use gray::{DIGITS, Refusal};
 use reader::{Found, Reader};
 use text_theory::Line;
 
+// (Each program has these few lines of its own: a crate for them would be no plainer.)
 fn print(bytes: &[u8]) {
     io::write_all(1, bytes);
 }
 
-fn min(a: usize, b: usize) -> usize
-    ensures { result ≡ min a b }
-{
-    if a < b { a } else { b }
-}
-
-// n, or how many bytes there are where they are fewer.
-fn min_len(n: usize, bytes: &[u8]) -> usize
-    ensures { IsPrefixLen result bytes.now × (result ≡ min n (length bytes.now)) }
-{
-    min(n, bytes.len())
-}
-
 fn read_line(line: &[u8]) -> Reader {
-    let half = min_len(line.len() / 2, line);
-    Reader::fresh().read(&line[..half]).read(&line[half..])
+    let (front, back) = line.split_at(line.len() / 2);
+    Reader::fresh().read(front).read(back)
 }
 
 fn first_line(reader: Reader) -> Line {
-    let found = reader.found();
-    let Found::Counts(n) = found else {
+    let Found::Counts(n) = reader.found() else {
         return Line::Unread;
     };
-    let counts = reader.counts;
-    let k = min_len(n, &counts);
-    text::survey_line(&counts[..k])
+    text::survey_line(&reader.counts[..n])
 }
 
-// How many bytes are written into an output of `room` bytes, 256 at the most; 0 where the line gets 9, 257 where it gets
-// another number.
-fn written_into(line: Line, room: usize) -> usize {
-    let mut out = [0u8; 256];
-    let k = min_len(room, &out);
-    let written = text::write_line(line, [0; DIGITS], 0, &mut out[..k]);
-    match written {
-        Written::Bytes(n) => n,
-        Written::Refused(k) => if k == 9 { 0 } else { 257 },
-    }
+// How many bytes of an output a line takes.
+fn write(line: Line, out: &mut [u8]) -> Result<usize, Refusal>
+    ensures { IfOk result (λ n. n ≤ length out.new) }
+{
+    text::write_line(line, [0; DIGITS], 0, out)
 }
 
 // A line needs just as many bytes as it has.
 fn print_line(line: Line) {
-    let mut out = [0u8; 256];
-    text::write_line(line, [0; DIGITS], 0, &mut out);
-    let n = min_len(written_into(line, 256), &out);
+    let mut out = [0; 256];
+    let Ok(n) = write(line, &mut out) else {
+        return;
+    };
     print(&out[..n]);
-    if written_into(line, n) != n {
+    if write(line, &mut out[..n]) != Ok(n) {
         print(b"refused with its room\n");
     }
     if 0 < n {
-        if written_into(line, n - 1) != 0 {
+        if write(line, &mut out[..n - 1]) != Err(Refusal::Output) {
             print(b"not refused with less\n");
         }
     }
 }
 
 // A line, and the same without its newline.
-fn print_answer(line: &[u8], shown: &[u8]) {
+fn print_answer(line: &[u8]) {
+    let shown = line.strip_suffix(b"\n");
     print(b"\"");
-    print(shown);
-    if shown.len() < line.len() {
+    print(shown.unwrap_or(line));
+    if shown.is_some() {
         print(b"\" ");
     } else {
         print(b"\" and no newline: ");
@@ -82,28 +63,9 @@ fn print_answer(line: &[u8], shown: &[u8]) {
     print_line(first_line(read_line(line)));
 }
 
-// The index of the first byte `b` from `from` on and below `to`, or `to` where there is none.
-fn find(text: &[u8], from: usize, to: usize, b: u8) -> usize
-    requires { (from ≤ to) × (to ≤ length text.now) }
-    ensures within { (from ≤ result) × (result ≤ to) }
-    ensures before { (k : ℕ) → from ≤ k → k < result → slice_index text.now k ≢ b }
-    ensures found { result < to → slice_index text.now result ≡ b }
-{
-    for i in from..to {
-        if text[i] == b {
-            return i;
-        }
-    }
-    to
-}
-
 fn run(text: &[u8]) {
-    let mut at = 0;
-    while at < text.len() {
-        let end = find(text, at, text.len(), b'\n');
-        let next = min_len(end + 1, text);
-        print_answer(&text[at..next], &text[at..end]);
-        at = next;
+    for line in text.split_inclusive(|byte| *byte == b'\n') {
+        print_answer(line);
     }
 }
 

@@ -3,21 +3,20 @@ use Prim.Native.Nat.{ℕ, zero, suc, ◌+◌, ◌-◌, ◌*◌, ◌^◌, ◌≤�
 use mathlib.Core.Path.{◌≡◌, refl, sym, ap, ◌∙◌}
 use mathlib.Core.Bool.{Bool, true, false, cond, not}
 use mathlib.Core.List.{List, [], ◌∷◌, ◌++◌, map, append-nil, map-append, map-id}
-use native.Mathlib.Nat.{add-zero, add-mul, mul-one, sub-add-eq}
+use native.Mathlib.Nat.{add-zero, add-mul, sub-add-eq}
 use native.Mathlib.Numerals.{add-one}
 use native.Mathlib.Decide.{dec_lt}
 use native.Mathlib.Omega.{arith}
-use lib.ListN.{length, get_or, take, drop, set, length-append, length-map, length-drop, length-set, drop_of_length-le}
-use lib.Seq.{drop-cons, length-take-le, take-suc-set, take-take, take-set-le, append_snoc}
+use lib.ListN.{length, get_or, take, drop, length-append, length-map, length-drop}
+use lib.Seq.{drop-cons, length-take-le}
 use Rattle.gray_theory.specs.Radices.{size}
 use Rattle.gray_theory.specs.Words.{even, upward, downward}
 use Rattle.lister_theory.specs.Listers.{blocks, listing}
-use Rattle.gray_theory.specs.Places.{placed}
-use Rattle.lister.specs.Outputs.{window, laid, notch_after, Reached, RowRoom, Listed}
+use Rattle.lister.specs.Outputs.{window, laid, notch_after, way_after, Past, Reached, Listed}
 use Rattle.lister_theory.proofs.Reflections.{length-listing}
-use Rattle.lister.proofs.Windows.{window-append, window-none, window-past, one_word, window-map, length-window}
+use Rattle.lister.proofs.Windows.{window-append, window-none, window-past, window-map, length-window}
 use Rattle.lister.proofs.Windows.{blocks-append, Each, each_window, each_blocks, each_listing}
-use Rattle.lister.proofs.Windows.{laid_none, laid_word, laid-append, laid-after}
+use Rattle.lister.proofs.Windows.{laid_none, laid-append, laid-after}
 
 -- the words that begin with the first u notches that a lister comes to
 unfoldable pub begun : Bool → ℕ → List ℕ → ℕ → List (List ℕ)
@@ -106,6 +105,15 @@ window_ended d m ms u skip left e (suc k) =
     ∙ append-nil (window skip left (begun d m ms v))
     ∙ window_ended d m ms u skip left e k
 
+-- the lister that the code chooses by the parity of the notch
+chosen_lister : (d : Bool) (ms : List ℕ) (b : ℕ)
+    → cond (even b) (listing d ms) (listing (not d) ms) ≡ listing (way_after d b) ms
+chosen_lister d ms b = go (even b)
+  where
+    go : (e : Bool) → cond e (listing d ms) (listing (not d) ms) ≡ listing (cond e d (not d)) ms
+    go true = refl
+    go false = refl
+
 -- after u notches of digit i: the digits before it are as they were, the window has moved on by the words of these notches, and
 -- the output holds those of them that were in it
 pub record Along (d : Bool) (radices : List ℕ) (i skip left start : ℕ)
@@ -129,15 +137,9 @@ lefts_next u q skip left s t t' es et next =
     let gone : u * q - skip + (q - s) ≡ (u + 1) * q - skip = omega arith in
     next ∙ ap (λ k. k - (q - s)) et ∙ sym (sub-add-eq left (u * q - skip) (q - s)) ∙ ap (λ k. left - k) gone
 
--- the radices after the last digit but one
-last_only : (radices : List ℕ) (i m : ℕ) → i + 2 ≡ length radices → m ≡ get_or radices (i + 1) 0 → drop (suc i) radices ≡ m ∷ []
-last_only radices i m last em =
-    let ended : drop (suc (suc i)) radices ≡ [] = drop_of_length-le radices {i = suc (suc i)} (omega arith) in
-    drop-cons radices (suc i) 0 (omega arith) ∙ rw (ended, ← (add-one i), em)
-
 -- a lister that has one digit's notches to go through
-module _ (d : Bool) (radices sizes : List ℕ) (i skip left start : ℕ) (word₀ out₀ : List ℕ)
-    (r : Reached radices sizes word₀ i skip left out₀ start) (more : i < length radices) where
+module _ (d : Bool) {radices sizes : List ℕ} {i skip left start : ℕ} {word₀ out₀ : List ℕ}
+    (more : i < length radices) (r : Reached radices sizes word₀ i skip left out₀ start) where
   -- digit i's radix, the radices after it, and the words of u notches that are in the window
   abbrev radix : ℕ
   radix = get_or radices i 0
@@ -164,7 +166,7 @@ module _ (d : Bool) (radices sizes : List ℕ) (i skip left start : ℕ) (word�
     holds = sym (ap (λ ws. laid start (take i word₀) ws out₀) nothing_inside ∙ laid_none start (take i word₀) out₀);
   }
 
-  module _ (word out : List ℕ) (u s t at : ℕ) (a : Along d radices i skip left start word₀ out₀ word out u s t at) where
+  module _ {word out : List ℕ} {u s t at : ℕ} (a : Along d radices i skip left start word₀ out₀ word out u s t at) where
     -- the next notch's words
     abbrev next : List (List ℕ)
     next = block d others (notch_after d radix u)
@@ -188,19 +190,6 @@ module _ (d : Bool) (radices sizes : List ℕ) (i skip left start : ℕ) (word�
           ∙ ap (λ ws. laid start (take i word₀) ws out₀) (sym (window_next d radix others u skip left s t a.skips a.lefts));
     }
 
-    -- all words of the next notch come before the window
-    pub along_past : (s' t' at' : ℕ) → u < get_or radices i 0 → size (drop (suc i) radices) ≤ s
-        → s' ≡ s - size (drop (suc i) radices) → t' ≡ t - (size (drop (suc i) radices) - s)
-        → at' + t' * length radices ≡ at + t * length radices
-        → Along d radices i skip left start word₀ out₀ word out (u + 1) s' t' at'
-    along_past s' t' at' h skipped es et ea =
-        let before : length next ≤ s = rw (length-block d others (notch_after d radix u)) skipped in
-        let nothing : inside u ++ window s t next ≡ inside u =
-        ap (λ ws. inside u ++ ws) (window-past s t next before) ∙ append-nil (inside u)
-        in
-        along_next word out s' t' at' h refl a.long refl es et ea
-        (a.holds ∙ ap (λ ws. laid start (take i word₀) ws out₀) (sym nothing))
-
     -- the place that is reached, by the number of words before it
     reached : at ≡ start + length (inside u) * (length (take i word₀) + suc (length others))
     reached =
@@ -221,38 +210,44 @@ module _ (d : Bool) (radices sizes : List ℕ) (i skip left start : ℕ) (word�
             let lefts = a.lefts in
             omega arith
 
-    -- those of the next notch that are in the window have been written
-    pub along_wrote : (word' out' : List ℕ) (b s' t' at' : ℕ) → u < get_or radices i 0 → s < size (drop (suc i) radices) → 0 < t
+    -- the lister of the next notch, b, has been through its words
+    pub along_after : {word' out' : List ℕ} {b s' t' at' : ℕ} → u < get_or radices i 0
         → b ≡ notch_after d (get_or radices i 0) u
-        → out'
-        ≡ laid at (take i word ++ (b ∷ []))
-        (window s t (cond (even b) (listing d (drop (suc i) radices)) (listing (not d) (drop (suc i) radices)))) out
-        → take i word' ≡ take i word → length word' ≡ 48 → length out' ≡ length out
-        → s' ≡ s - size (drop (suc i) radices) → t' ≡ t - (size (drop (suc i) radices) - s)
-        → at' + t' * length radices ≡ at + t * length radices
+        → Past (length radices) (size (drop (i + 1) radices)) s t at s' t' at'
+        → Listed (way_after d b) (drop (i + 1) radices) i (take i word ++ (b ∷ [])) word word' s t at out out'
+        → length out' ≡ length out
         → Along d radices i skip left start word₀ out₀ word' out' (u + 1) s' t' at'
-    along_wrote word' out' b s' t' at' h begins some notch wrote kept long same es et ea =
-        let words = cond (even b) (listing d others) (listing (not d) others) in
+    along_after {word'} {out'} {b} {s'} {t'} {at'} h notch past l same =
         let fits = r.room in
-        along_next word' out' s' t' at' h kept long same es et ea
-        (wrote
-        ∙ laid-after at b (take i word) (window s t words) out
-        ∙ ap (λ ws. laid at (take i word) ws out) (sym (window-map (λ w. b ∷ w) s t words))
+        let moved = rw (add-one i) at past in
+        along_next word' out' s' t' at' h l.kept l.long same moved.0 moved.1 moved.2
+        (l.wrote
+        ∙ ap (λ k. laid at (take i word ++ (b ∷ [])) (window s t (listing (way_after d b) (drop k radices))) out) (add-one i)
+        ∙ ap (λ ws. laid at (take i word ++ (b ∷ [])) (window s t ws) out) (sym (chosen_lister d others b))
+        ∙ laid-after at b (take i word) (window s t (words b)) out
+        ∙ ap (λ ws. laid at (take i word) ws out) (sym (window-map (λ w. b ∷ w) s t (words b)))
         ∙ ap (λ x. laid at (take i word) (window s t (block d others x)) out) notch
         ∙ ap (λ p. laid at p (window s t next) out) a.kept
         ∙ ap (λ o. laid at (take i word₀) (window s t next) o) a.holds
         ∙ ap (λ k. laid k (take i word₀) (window s t next) (laid start (take i word₀) (inside u) out₀)) reached
         ∙ sym (laid-append start (suc (length others)) (take i word₀) (inside u) (window s t next) out₀
         (each_window (suc (length others)) skip left (begun d radix others u) (each_begun d radix others u)) (omega arith)))
+      where
+        words : ℕ → List (List ℕ)
+        words x = cond (even x) (listing d others) (listing (not d) others)
 
     -- the notches are at their end, or the window is
-    pub along_ended : (u < get_or radices i 0 → 0 < t → ⊥)
-        → out ≡ laid start (take i word₀) (window skip left (listing d (drop i radices))) out₀
-    along_ended stops =
+    pub along_left : (u < get_or radices i 0 → 0 < t → ⊥)
+        → Listed d (drop i radices) i (take i word₀) word₀ word skip left start out₀ out
+    along_left stops =
         let whole : listing d (drop i radices) ≡ begun d radix others radix =
         ap (listing d) (drop-cons radices i 0 more) ∙ listing-begun d radix others
         in
-        a.holds ∙ ap (λ ws. laid start (take i word₀) ws out₀) (sym (ap (window skip left) whole ∙ rest_ended))
+        record {
+          wrote = a.holds ∙ ap (λ ws. laid start (take i word₀) ws out₀) (sym (ap (window skip left) whole ∙ rest_ended));
+          kept = a.kept;
+          long = a.long;
+        }
       where
         rest_ended : inside radix ≡ inside u
         rest_ended =
@@ -276,118 +271,17 @@ module _ (d : Bool) (radices sizes : List ℕ) (i skip left start : ℕ) (word�
     short : s + t ≤ 2 ^ 62
     short = omega (arith, a.skips, a.lefts, r.short)
 
-    -- what the lister of the digits that remain may rely on, digit i being set to b
-    pub along_below : (b : ℕ) → s < size (drop (suc i) radices) → 0 < t → Reached radices sizes (set word i b) (i + 1) s t out at
-    along_below b begins some = record {
+    -- what the lister of the next notch may rely on
+    pub along_reached : 0 < t → Reached radices sizes word i s t out at
+    along_reached some = record {
       few = r.few;
-      inside = omega arith;
+      inside = r.inside;
       whole = r.whole;
       table = r.table;
       sized = r.sized;
-      long = length-set word i b ∙ a.long;
-      begun = rw (add-one i) begins;
+      long = a.long;
+      begun = omega (arith, a.skips, r.begun);
       some = some;
       short = short;
       room = along_room;
     }
-
-    -- what the writer of the last digit may rely on; of the word that it is given only the length counts
-    pub along_row : (given : List ℕ) (m : ℕ) → length given ≡ 48 → s < size (drop (suc i) radices) → 3 ≤ length radices
-        → i + 2 ≡ length radices → m ≡ get_or radices (i + 1) 0 → m < 256
-        → RowRoom given (length radices) m s t out at
-    unfolding size
-    along_row given m long begins three last em byte = record {
-      three = three;
-      few = r.few;
-      long = long;
-      byte = byte;
-      begun = rw (last_only radices i m last em, mul-one m) at begins;
-      short = short;
-      room = along_room;
-    }
-
--- ---- what the writers of the next notch leave
--- the writer of the last two digits
-pub wrote_square : (radices word out out' : List ℕ) (d : Bool) (i b s t at : ℕ) → i + 3 ≡ length radices
-    → out' ≡ laid at (take (length radices - 3) word ++ (b ∷ [])) (window s t (listing d (drop (length radices - 2) radices))) out
-    → out' ≡ laid at (take i word ++ (b ∷ [])) (window s t (listing d (drop (suc i) radices))) out
-wrote_square radices word out out' d i b s t at last e =
-    let seam : length radices - 3 ≡ i = omega arith in
-    let next : length radices - 2 ≡ suc i = omega arith in
-    rw (seam, next) at e
-
--- the fixed digits where two remain, and a, the one before them, is not stored
-pub fixed_digits : (word : List ℕ) (n a : ℕ) → 3 ≤ n → n ≤ length word
-    → take (n - 2) (set word (n - 3) a) ≡ take (n - 3) word ++ (a ∷ [])
-fixed_digits word n a three few =
-    let next : n - 2 ≡ suc (n - 3) = omega arith in
-    ap (λ k. take k (set word (n - 3) a)) next ∙ take-suc-set word (n - 3) a (omega arith)
-
--- the writer of the last digit
-pub wrote_row : (radices word out out' : List ℕ) (d : Bool) (a b m s t at : ℕ) → 3 ≤ length radices → length radices ≤ length word
-    → m ≡ get_or radices (length radices - 2 + 1) 0
-    → out' ≡ laid at (take (length radices - 3) word ++ (a ∷ b ∷ [])) (window s t (listing d (m ∷ []))) out
-    → out'
-    ≡ laid at (take (length radices - 2) (set word (length radices - 3) a) ++ (b ∷ []))
-    (window s t (listing d (drop (suc (length radices - 2)) radices))) out
-wrote_row radices word out out' d a b m s t at three few em e =
-    rw (last_only radices (length radices - 2) m (omega arith) em)
-    (e ∙ ap (λ p. laid at p (window s t (listing d (m ∷ []))) out) (sym fixed))
-  where
-    fixed : take (length radices - 2) (set word (length radices - 3) a) ++ (b ∷ [])
-        ≡ take (length radices - 3) word ++ (a ∷ b ∷ [])
-    fixed =
-        ap (λ p. p ++ (b ∷ [])) (fixed_digits word (length radices) a three few)
-        ∙ append_snoc (take (length radices - 3) word) a (b ∷ [])
-
--- the lister that the code chooses by the parity of the notch
-pub chosen_lister : (d : Bool) (ms : List ℕ) (b : ℕ)
-    → cond (even b) (listing d ms) (listing (not d) ms) ≡ listing (cond (even b) d (not d)) ms
-chosen_lister d ms b = go (even b)
-  where
-    go : (e : Bool) → cond e (listing d ms) (listing (not d) ms) ≡ listing (cond e d (not d)) ms
-    go true = refl
-    go false = refl
-
--- ---- the digits that remain where digit i stands at notch b
-module _ (radices sizes word : List ℕ) (i b s t at : ℕ) (out : List ℕ) (more : i < length radices)
-    (r : Reached radices sizes (set word i b) (i + 1) s t out at) where
-  -- the digits that are fixed
-  fixed : take (i + 1) (set word i b) ≡ take i word ++ (b ∷ [])
-  fixed =
-      let long : length word ≡ 48 = sym (length-set word i b) ∙ r.long in
-      ap (λ k. take k (set word i b)) (add-one i) ∙ take-suc-set word i b (omega (arith, r.few))
-
-  -- one of the listers has listed them
-  pub listed_below : (way d : Bool) → way ≡ d → (word' out' : List ℕ)
-      → Listed d (drop (i + 1) radices) (i + 1) (take (i + 1) (set word i b)) (set word i b) word' s t at out out'
-      → Listed way (drop (i + 1) radices) i (take i word ++ (b ∷ [])) word word' s t at out out'
-  listed_below way d e word' out' l = record {
-    wrote = rw (e, ← fixed) l.wrote;
-    kept =
-        sym (take-take i (i + 1) word' (omega arith))
-        ∙ ap (take i) l.kept
-        ∙ take-take i (i + 1) (set word i b) (omega arith)
-        ∙ take-set-le i word i b (omega arith);
-    long = l.long;
-  }
-
-  -- there is none: the word itself
-  pub listed-none : (d : Bool) (out' : List ℕ) → i + 1 ≡ length radices → out' ≡ placed at (take (i + 1) (set word i b)) out
-      → Listed d (drop (i + 1) radices) i (take i word ++ (b ∷ [])) word (set word i b) s t at out out'
-  unfolding listing size
-  listed-none d out' none e =
-      let ended : drop (i + 1) radices ≡ [] = drop_of_length-le radices {i = i + 1} (omega arith) in
-      let begins : s < 1 = rw ended at r.begun in
-      let one : window s t (listing d (drop (i + 1) radices)) ≡ [] ∷ [] =
-      ap (λ ms. window s t (listing d ms)) ended ∙ one_word s t begins r.some
-      in
-      record {
-        wrote =
-            e
-            ∙ ap (λ p. placed at p out) fixed
-            ∙ sym (laid_word at (take i word ++ (b ∷ [])) out)
-            ∙ ap (λ ws. laid at (take i word ++ (b ∷ [])) ws out) (sym one);
-        kept = take-set-le i word i b (omega arith);
-        long = r.long;
-      }

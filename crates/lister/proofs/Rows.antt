@@ -1,5 +1,5 @@
 -- Laws of the writer of one digit's words: what the output holds before word u, and what that word adds.
-use Prim.Native.Nat.{ℕ, suc, ◌+◌, ◌-◌, ◌*◌, ◌≤◌, ◌<◌}
+use Prim.Native.Nat.{ℕ, suc, ◌+◌, ◌-◌, ◌*◌, ◌≤◌, ◌<◌, min}
 use native.Mathlib.Decide.{dec_le}
 use native.Mathlib.Nat.{mul-le-mul_right, mul-one, sub_self, suc-mul, zero-mul}
 use native.Mathlib.Omega.{arith}
@@ -57,7 +57,7 @@ window_more s k words d h =
 
 -- `end` is where the words end, or the window if that ends first
 window_enough : (s t end : ℕ) (words : List (List ℕ))
-    → end ≡ length words - (length words - (s + t))
+    → end ≡ min (length words) (s + t)
     → window s (end - s) words ≡ window s t words
 unfolding window
 window_enough s t end words e =
@@ -101,7 +101,7 @@ pub record Rowed (fixed : List ℕ) (n : ℕ) (down : Bool) (m skip end start : 
   pub holds : out ≡ placed start (row_bytes fixed down m skip u) out₀
 
 module _ (word : List ℕ) (n a b : ℕ) (down : Bool) (m skip left : ℕ) (out₀ : List ℕ) (start end : ℕ)
-    (r : RowRoom word n m skip left out₀ start) (ends : end ≡ m - (m - (skip + left))) where
+    (r : RowRoom word n m skip left out₀ start) (ends : end ≡ min m (skip + left)) where
   -- each word has n digits
   length-word : (c : ℕ) → length (staying word n a b ++ (c ∷ [])) ≡ n
   length-word c =
@@ -171,7 +171,7 @@ module _ (word : List ℕ) (n a b : ℕ) (down : Bool) (m skip left : ℕ) (out�
     row_ended h =
         let last : u ≡ end = omega arith in
         let words = listing down (m ∷ []) in
-        let long : end ≡ length words - (length words - (skip + left)) = rw (row-length down m) ends in
+        let long : end ≡ min (length words) (skip + left) = rw (row-length down m) ends in
         w.holds
         ∙ ap (λ k. placed start (flatten (map (λ v. staying word n a b ++ v) (window skip (k - skip) words))) out₀) last
         ∙ ap (λ ws. placed start (flatten (map (λ v. staying word n a b ++ v) ws)) out₀) (window_enough skip left end words long)

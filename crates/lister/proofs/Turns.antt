@@ -1,193 +1,189 @@
--- A turn of a lister's loop, for `up`, `down` and `square` alike: what is known where it begins, and what its steps want of
--- that.
-use Prim.Native.Nat.{ℕ, suc, ◌+◌, ◌-◌, ◌*◌, ◌≤◌, ◌<◌}
-use native.Mathlib.Omega.{arith}
-use mathlib.Core.Path.{◌≡◌, refl, sym, ap, subst, ◌∙◌}
-use mathlib.Core.Bool.{Bool, true, false, cond, not, ◌&&◌, and-eq-true_iff}
-use mathlib.Core.List.{List, [], ◌∷◌, ◌++◌}
+-- What the functions that a turn of a lister's loop calls rely on, and what they leave.
+use Prim.Native.Nat.{ℕ, suc, ◌+◌, ◌-◌, ◌≤◌, ◌<◌}
+use native.Mathlib.Nat.{mul-one}
 use native.Mathlib.Numerals.{add-one}
-use lib.Dec.{ltb}
-use lib.ListN.{length, get_or, take, drop, set, length-set}
-use borrow.Author.Tests.{ltb-true, ltb-false, lt-ltb}
+use native.Mathlib.Omega.{arith}
+use mathlib.Core.Path.{◌≡◌, refl, sym, ap, ◌∙◌}
+use mathlib.Core.Bool.{Bool}
+use mathlib.Core.List.{List, [], ◌∷◌, ◌++◌}
+use lib.ListN.{length, get_or, take, drop, set, length-set, drop_of_length-le}
+use lib.Seq.{drop-cons, take-suc-set, take-take, take-set-le, append_snoc}
 use Rattle.gray_theory.specs.Radices.{size}
-use Rattle.gray_theory.specs.Words.{even}
+use Rattle.gray_theory.specs.Places.{placed}
 use Rattle.lister_theory.specs.Listers.{listing}
-use Rattle.lister.specs.Outputs.{window, laid, notch_after, Reached, RowRoom, Listed}
-use Rattle.lister.proofs.Blocks.{Along, along_past, along_wrote, along_ended, along_below, along_row}
-use Rattle.lister.proofs.Blocks.{wrote_row, wrote_square, chosen_lister, fixed_digits}
+use Rattle.lister_theory.proofs.Reflections.{length-listing}
+use Rattle.lister.specs.Outputs.{window, laid, Past, Reached, RowRoom, Listed}
+use Rattle.lister.proofs.Windows.{window-past, one_word, laid_none, laid_word}
 
--- what is known where a turn begins: u of the m notches are passed, and each has q words
-pub record Turn (d : Bool) (radices sizes : List ℕ) (i skip left start : ℕ) (word₀ out₀ : List ℕ) (m q : ℕ) (word out : List ℕ)
-    (u s t at : ℕ) : Type 0 where
-  pub reached : Reached radices sizes word₀ i skip left out₀ start
-  pub more : i < length radices
-  pub radix : m ≡ get_or radices i 0
-  pub byte : m < 256
-  pub block : q ≡ size (drop (suc i) radices)
-  pub along : Along d radices i skip left start word₀ out₀ word out u s t at
-
--- it is known from what the lister may rely on and what the loop keeps
-pub turn_at : {d : Bool} {radices sizes : List ℕ} {i skip left start : ℕ} {word₀ out₀ : List ℕ} {m : ℕ} {word out : List ℕ}
-    {u s t at : ℕ} → Reached radices sizes word₀ i skip left out₀ start → i < length radices
-    → (m ≡ get_or radices i 0) × (m < 256) → Along d radices i skip left start word₀ out₀ word out u s t at
-    → Turn d radices sizes i skip left start word₀ out₀ m (get_or sizes i 0) word out u s t at
-turn_at {i = i} reached more radix along = record {
-  reached = reached;
-  more = more;
-  radix = radix.0;
-  byte = radix.1;
-  block = reached.sized i more;
-  along = along;
+-- what is left, under other names
+pub listed_as : {d e : Bool} {ms fixed word w w' out o o' : List ℕ} {i s t at : ℕ} → d ≡ e
+    → Listed e ms i fixed word w s t at out o → w' ≡ w → o' ≡ o → Listed d ms i fixed word w' s t at out o'
+listed_as {ms = ms} {fixed = fixed} {out = out} {i = i} {s = s} {t = t} {at = at} ed l ew eo = record {
+  wrote = eo ∙ l.wrote ∙ ap (λ b. laid at fixed (window s t (listing b ms)) out) (sym ed);
+  kept = ap (take i) ew ∙ l.kept;
+  long = ap length ew ∙ l.long;
 }
 
--- the window after the q words of a notch
-abbrev pub Moved : (n q s t at s' t' at' : ℕ) → Type 0
-Moved n q s t at s' t' at' = (s' ≡ s - q) × (t' ≡ t - (q - s)) × (at' + t' * n ≡ at + t * n)
+-- ---- the words in which digit i stands at notch b
+module _ {radices sizes word : List ℕ} {i s t at : ℕ} {out : List ℕ} (more : i < length radices)
+    (r : Reached radices sizes word i s t out at) where
+  -- the table says how many they are
+  words : get_or sizes i 0 ≡ size (drop (i + 1) radices)
+  words = rw (add-one i) (r.sized i more)
 
--- the lister whose words follow notch b
-abbrev pub Follows : (d : Bool) (b : ℕ) (way : Bool) → Type 0
-Follows d b way = way ≡ cond (even b) d (not d)
+  pub past_words : (n s' t' at' : ℕ) → Past n (get_or sizes i 0) s t at s' t' at'
+      → Past n (size (drop (i + 1) radices)) s t at s' t' at'
+  past_words n s' t' at' past = rw words at past
 
--- the loop's test
-module _ (u m t : ℕ) where
-  pub goes_on : (ltb u m && ltb 0 t) ≡ true → (u < m) × (0 < t)
-  goes_on e =
-      let (notch, words) = (and-eq-true_iff (ltb u m) (ltb 0 t)).0 e in
-      (ltb-true u m notch, ltb-true 0 t words)
+  -- all of them come before the window
+  pub listed_past : (way : Bool) (b : ℕ) → get_or sizes i 0 ≤ s
+      → Listed way (drop (i + 1) radices) i (take i word ++ (b ∷ [])) word word s t at out out
+  listed_past way b skipped =
+      let before : length (listing way (drop (i + 1) radices)) ≤ s =
+      omega (arith, length-listing way (drop (i + 1) radices), words)
+      in
+      record {
+        wrote =
+            sym (ap (λ ws. laid at (take i word ++ (b ∷ [])) ws out)
+            (window-past s t (listing way (drop (i + 1) radices)) before)
+            ∙ laid_none at (take i word ++ (b ∷ [])) out);
+        kept = refl;
+        long = r.long;
+      }
 
-  pub ends : (ltb u m && ltb 0 t) ≡ false → u < m → 0 < t → ⊥
-  ends e h some =
-      let none : t ≤ 0 = ltb-false 0 t (ap (λ b. b && ltb 0 t) (sym (lt-ltb u m h)) ∙ e) in
-      omega arith
+  -- the writer of the last two digits has written them
+  pub listed_square : {way : Bool} (b : ℕ) {out' : List ℕ} → i + 3 ≡ length radices
+      → out'
+      ≡ laid at (take (length radices - 3) word ++ (b ∷ []))
+      (window s t (listing way (drop (length radices - 2) radices))) out
+      → Listed way (drop (i + 1) radices) i (take i word ++ (b ∷ [])) word word s t at out out'
+  listed_square b last e =
+      let seam : length radices - 3 ≡ i = omega arith in
+      let next : length radices - 2 ≡ i + 1 = omega arith in
+      record { wrote = rw (seam, next) at e; kept = refl; long = r.long }
 
-module _ {d : Bool} {radices sizes : List ℕ} {i skip left start : ℕ} {word₀ out₀ : List ℕ} {m q : ℕ} {word out : List ℕ}
-    {u s t at : ℕ} (turn : Turn d radices sizes i skip left start word₀ out₀ m q word out u s t at) where
-  -- what the other functions that a turn calls may rely on
-  below_may : (b : ℕ) → s < q → 0 < t → Reached radices sizes (set word i b) (i + 1) s t out at
-  below_may b begins some =
-      along_below d radices sizes i skip left start word₀ out₀ turn.reached turn.more word out u s t at turn.along b
-      (omega (arith, turn.block)) some
+-- ---- the digits that remain where digit i stands at notch b
+module _ (word : List ℕ) (b : ℕ) {radices sizes : List ℕ} {i s t at : ℕ} {out : List ℕ} (more : i < length radices)
+    (r : Reached radices sizes (set word i b) (i + 1) s t out at) where
+  -- the digits that are fixed
+  fixed : take (i + 1) (set word i b) ≡ take i word ++ (b ∷ [])
+  fixed =
+      let long : length word ≡ 48 = sym (length-set word i b) ∙ r.long in
+      ap (λ k. take k (set word i b)) (add-one i) ∙ take-suc-set word i b (omega (arith, r.few))
 
-  pub square_may : (b : ℕ) → s < q → 0 < t → i + 3 ≡ length radices
-      → (3 ≤ length radices)
-      × Reached radices sizes (set word (length radices - 3) b) (length radices - 2) s t out at
-  square_may b begins some three =
-      let seam : i ≡ length radices - 3 = omega arith in
-      let next : i + 1 ≡ length radices - 2 = omega arith in (
-        omega arith,
-        subst (λ k. Reached radices sizes (set word k b) (length radices - 2) s t out at) seam
-            (subst (λ k. Reached radices sizes (set word i b) k s t out at) next (below_may b begins some)),
-      )
+  -- one of the listers has listed them
+  pub listed_below : {way d : Bool} {word' out' : List ℕ} → way ≡ d
+      → Listed d (drop (i + 1) radices) (i + 1) (take (i + 1) (set word i b)) (set word i b) word' s t at out out'
+      → Listed way (drop (i + 1) radices) i (take i word ++ (b ∷ [])) word word' s t at out out'
+  listed_below {word' = word'} e l = record {
+    wrote = rw (e, ← fixed) l.wrote;
+    kept =
+        sym (take-take i (i + 1) word' (omega arith))
+        ∙ ap (take i) l.kept
+        ∙ take-take i (i + 1) (set word i b) (omega arith)
+        ∙ take-set-le i word i b (omega arith);
+    long = l.long;
+  }
 
-  -- the loop is left
-  stopped : (u < m → 0 < t → ⊥) → out ≡ laid start (take i word₀) (window skip left (listing d (drop i radices))) out₀
-  stopped stops =
-      along_ended d radices sizes i skip left start word₀ out₀ turn.reached turn.more word out u s t at turn.along
-      (λ h some. stops (omega (arith, turn.radix)) some)
+  -- there is none: the word itself
+  pub listed-none : {d : Bool} {out' : List ℕ} → i + 1 ≡ length radices → out' ≡ placed at (take (i + 1) (set word i b)) out
+      → Listed d (drop (i + 1) radices) i (take i word ++ (b ∷ [])) word (set word i b) s t at out out'
+  unfolding listing size
+  listed-none {d} none e =
+      let ended : drop (i + 1) radices ≡ [] = drop_of_length-le radices {i = i + 1} (omega arith) in
+      let begins : s < 1 = rw ended at r.begun in
+      let one : window s t (listing d (drop (i + 1) radices)) ≡ [] ∷ [] =
+      ap (λ ms. window s t (listing d ms)) ended ∙ one_word s t begins r.some
+      in
+      record {
+        wrote =
+            e
+            ∙ ap (λ p. placed at p out) fixed
+            ∙ sym (laid_word at (take i word ++ (b ∷ [])) out)
+            ∙ ap (λ ws. laid at (take i word ++ (b ∷ [])) ws out) (sym one);
+        kept = take-set-le i word i b (omega arith);
+        long = r.long;
+      }
 
-  pub left_off : (u < m → 0 < t → ⊥) → Listed d (drop i radices) i (take i word₀) word₀ word skip left start out₀ out
-  left_off stops = record { wrote = stopped stops; kept = turn.along.kept; long = turn.along.long }
+-- ---- where two digits remain, and the one before them is a, which is not stored
+-- the radices after the last digit but one
+last_only : (radices : List ℕ) (i m : ℕ) → i + 2 ≡ length radices → m ≡ get_or radices (i + 1) 0 → drop (suc i) radices ≡ m ∷ []
+last_only radices i m last em =
+    let ended : drop (suc (suc i)) radices ≡ [] = drop_of_length-le radices {i = suc (suc i)} (omega arith) in
+    drop-cons radices (suc i) 0 (omega arith) ∙ rw (ended, ← (add-one i), em)
 
-  -- where the next turn begins, from each of the ways through this one
-  module _ (word' out' : List ℕ) (s' t' at' : ℕ) (going : u < m) (moved : Moved (length radices) q s t at s' t' at') where
-    abbrev Next : Type 0
-    Next = Along d radices i skip left start word₀ out₀ word' out' (u + 1) s' t' at'
+-- the fixed digits where two remain, and a, the one before them, is not stored
+fixed_digits : (word : List ℕ) (n a : ℕ) → 3 ≤ n → n ≤ length word
+    → take (n - 2) (set word (n - 3) a) ≡ take (n - 3) word ++ (a ∷ [])
+fixed_digits word n a three few =
+    let next : n - 2 ≡ suc (n - 3) = omega arith in
+    ap (λ k. take k (set word (n - 3) a)) next ∙ take-suc-set word (n - 3) a (omega arith)
 
-    -- all words of the notch come before the window
-    pub after_none : q ≤ s → word' ≡ word → out' ≡ out → Next
-    after_none skipped ew eo =
-        subst (λ (x : List ℕ). Along d radices i skip left start word₀ out₀ x out' (u + 1) s' t' at') (sym ew)
-        (subst (λ (x : List ℕ). Along d radices i skip left start word₀ out₀ word x (u + 1) s' t' at') (sym eo)
-        (along_past d radices sizes i skip left start word₀ out₀ turn.reached turn.more word out u s t at turn.along
-        s' t' at'
-        (omega (arith, turn.radix))
-        (omega (arith, turn.block))
-        (omega (arith, turn.block, moved.0))
-        (omega (arith, turn.block, moved.1))
-        moved.2))
+-- the writer of the last digit
+wrote_row : (radices word out out' : List ℕ) (d : Bool) (a b m s t at : ℕ) → 3 ≤ length radices → length radices ≤ length word
+    → m ≡ get_or radices (length radices - 2 + 1) 0
+    → out' ≡ laid at (take (length radices - 3) word ++ (a ∷ b ∷ [])) (window s t (listing d (m ∷ []))) out
+    → out'
+    ≡ laid at (take (length radices - 2) (set word (length radices - 3) a) ++ (b ∷ []))
+    (window s t (listing d (drop (suc (length radices - 2)) radices))) out
+wrote_row radices word out out' d a b m s t at three few em e =
+    rw (last_only radices (length radices - 2) m (omega arith) em)
+    (e ∙ ap (λ p. laid at p (window s t (listing d (m ∷ []))) out) (sym fixed))
+  where
+    fixed : take (length radices - 2) (set word (length radices - 3) a) ++ (b ∷ [])
+        ≡ take (length radices - 3) word ++ (a ∷ b ∷ [])
+    fixed =
+        ap (λ p. p ++ (b ∷ [])) (fixed_digits word (length radices) a three few)
+        ∙ append_snoc (take (length radices - 3) word) a (b ∷ [])
 
-    -- some of them are in it, and those were written: b is the notch, and `way` the lister whose words follow it
-    module _ (b : ℕ) (way : Bool) (begins : s < q) (some : 0 < t) (notch : b ≡ notch_after d m u)
-        (follows : Follows d b way) where
-      after_wrote : out' ≡ laid at (take i word ++ (b ∷ [])) (window s t (listing way (drop (suc i) radices))) out
-          → take i word' ≡ take i word → length word' ≡ 48 → length out' ≡ length out → Next
-      after_wrote wrote kept long same =
-          along_wrote d radices sizes i skip left start word₀ out₀ turn.reached turn.more word out u s t at turn.along
-          word' out' b s' t' at'
-          (omega (arith, turn.radix))
-          (omega (arith, turn.block))
-          some
-          (notch ∙ ap (λ x. notch_after d x u) turn.radix)
-          (wrote
-          ∙ ap (λ x. laid at (take i word ++ (b ∷ [])) (window s t (listing x (drop (suc i) radices))) out) follows
-          ∙ ap (λ x. laid at (take i word ++ (b ∷ [])) (window s t x) out) (sym (chosen_lister d (drop (suc i) radices) b)))
-          kept long same
-          (omega (arith, turn.block, moved.0))
-          (omega (arith, turn.block, moved.1))
-          moved.2
-
-      -- by the writer of the last two digits
-      pub after_square : (out'' : List ℕ) → i + 3 ≡ length radices
-          → out''
-          ≡ laid at (take (length radices - 3) word ++ (b ∷ []))
-          (window s t (listing way (drop (length radices - 2) radices))) out
-          → length out'' ≡ length out → word' ≡ word → out' ≡ out'' → Next
-      after_square out'' three wrote same ew eo =
-          after_wrote
-          (wrote_square radices word out out' way i b s t at three (eo ∙ wrote))
-          (ap (take i) ew)
-          (ap length ew ∙ turn.along.long)
-          (ap length eo ∙ same)
-
-      -- by a lister of the digits that remain
-      pub after-listed : (word'' out'' : List ℕ)
-          → Listed way (drop (i + 1) radices) i (take i word ++ (b ∷ [])) word word'' s t at out out''
-          → length out'' ≡ length out → word' ≡ word'' → out' ≡ out'' → Next
-      after-listed word'' out'' l same ew eo =
-          after_wrote (eo ∙ rw (add-one i) at l.wrote) (ap (take i) ew ∙ l.kept) (ap length ew ∙ l.long)
-          (ap length eo ∙ same)
-
--- where two digits remain, and the one before them is a, which is not stored
-module _ {d : Bool} {radices sizes : List ℕ} {skip left start : ℕ} {out₀ : List ℕ} {m q : ℕ} {out : List ℕ} {u s t at : ℕ}
-    (word : List ℕ) (a : ℕ) (three : 3 ≤ length radices)
-    (turn : Turn d radices sizes (length radices - 2) skip left start (set word (length radices - 3) a) out₀ m q
-    (set word (length radices - 3) a) out u s t at) where
+module _ (word : List ℕ) (a : ℕ) {radices sizes : List ℕ} {s t at : ℕ} {out : List ℕ} (three : 3 ≤ length radices)
+    (r : Reached radices sizes (set word (length radices - 3) a) (length radices - 2) s t out at)
+    {last : ℕ} (radix : last ≡ get_or radices (length radices - 2 + 1) 0) where
   -- the word with a in its place
   abbrev whole : List ℕ
   whole = set word (length radices - 3) a
 
   long : length word ≡ 48
-  long = sym (length-set word (length radices - 3) a) ∙ turn.reached.long
+  long = sym (length-set word (length radices - 3) a) ∙ r.long
 
-  fits : length radices ≤ length word
-  fits = omega (arith, long, turn.reached.few)
+  -- what the writer of the last digit may rely on
+  pub reached_row : s < get_or sizes (length radices - 2) 0 → last < 256 → RowRoom word (length radices) last s t out at
+  unfolding size
+  reached_row begins byte =
+      let some : s < size (drop (suc (length radices - 2)) radices) = rw (r.sized (length radices - 2) (omega arith)) at begins in
+      record {
+        three = three;
+        few = r.few;
+        long = long;
+        byte = byte;
+        begun = rw (last_only radices (length radices - 2) last (omega arith) radix, mul-one last) at some;
+        short = r.short;
+        room = r.room;
+      }
 
-  -- the loop is left
-  pub left_square : (u < m → 0 < t → ⊥)
-      → out
-      ≡ laid start (take (length radices - 3) word ++ (a ∷ []))
-      (window skip left (listing d (drop (length radices - 2) radices))) out₀
-  left_square stops =
-      stopped turn stops
-      ∙ ap (λ p. laid start p (window skip left (listing d (drop (length radices - 2) radices))) out₀)
-      (fixed_digits word (length radices) a three fits)
+  -- it has written the words of digit n - 1 at notch b
+  pub listed_row : {way : Bool} (b : ℕ) {out' : List ℕ}
+      → out' ≡ laid at (take (length radices - 3) word ++ (a ∷ b ∷ [])) (window s t (listing way (last ∷ []))) out
+      → Listed way (drop (length radices - 2 + 1) radices) (length radices - 2) (take (length radices - 2) whole ++ (b ∷ []))
+      whole whole s t at out out'
+  listed_row {way} b {out'} e = record {
+    wrote =
+        rw (add-one (length radices - 2))
+        (wrote_row radices word out out' way a b last s t at three (omega (arith, long, r.few)) radix e);
+    kept = refl;
+    long = r.long;
+  }
 
-  module _ (last : ℕ) (radix : last ≡ get_or radices (length radices - 2 + 1) 0) where
-    -- what the writer of the last digit may rely on
-    pub row_may : s < q → last < 256 → RowRoom word (length radices) last s t out at
-    row_may begins byte =
-        along_row d radices sizes (length radices - 2) skip left start whole out₀ turn.reached turn.more whole out u s t at
-        turn.along word last long (omega (arith, turn.block)) three (omega arith) radix byte
-
-    -- where the next turn begins, when that has written its words
-    pub after-row : (out' : List ℕ) (s' t' at' : ℕ) → u < m → Moved (length radices) q s t at s' t' at'
-        → (b : ℕ) (way : Bool) → s < q → 0 < t → b ≡ notch_after d m u → Follows d b way → (out'' : List ℕ)
-        → out'' ≡ laid at (take (length radices - 3) word ++ (a ∷ b ∷ [])) (window s t (listing way (last ∷ []))) out
-        → length out'' ≡ length out → out' ≡ out''
-        → Along d radices (length radices - 2) skip left start whole out₀ whole out' (u + 1) s' t' at'
-    after-row out' s' t' at' going moved b way begins some notch follows out'' wrote same eo =
-        after_wrote turn whole out' s' t' at' going moved b way begins some notch follows
-        (wrote_row radices word out out' way a b last s t at three fits radix (eo ∙ wrote))
-        refl
-        turn.reached.long
-        (ap length eo ∙ same)
+-- the loop over the notches of digit n - 1 is left
+pub left_square : (word : List ℕ) (a : ℕ) {radices sizes out out' : List ℕ} {d : Bool} {s t at : ℕ} → 3 ≤ length radices
+    → Reached radices sizes (set word (length radices - 3) a) (length radices - 2) s t out at
+    → Listed d (drop (length radices - 2) radices) (length radices - 2)
+    (take (length radices - 2) (set word (length radices - 3) a)) (set word (length radices - 3) a)
+    (set word (length radices - 3) a) s t at out out'
+    → out'
+    ≡ laid at (take (length radices - 3) word ++ (a ∷ [])) (window s t (listing d (drop (length radices - 2) radices))) out
+left_square word a {radices = radices} {out = out} {d = d} {s = s} {t = t} {at = at} three r l =
+    let long = length-set word (length radices - 3) a in
+    l.wrote
+    ∙ ap (λ p. laid at p (window s t (listing d (drop (length radices - 2) radices))) out)
+    (fixed_digits word (length radices) a three (omega (arith, r.few, r.long)))

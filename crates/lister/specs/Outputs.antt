@@ -1,7 +1,8 @@
 -- What the functions of this crate leave in the memory that they are lent.
-use Rattle.std.specs.Prelude.{ℕ, suc, ◌+◌, ◌-◌, ◌*◌, ◌^◌, ◌≤◌, ◌<◌, ◌≡◌, Bool, true, cond, length, get_or, take, drop}
+use Rattle.std.specs.Prelude.{ℕ, suc, ◌+◌, ◌-◌, ◌*◌, ◌^◌, ◌≤◌, ◌<◌, ◌≡◌, Bool, true, not, cond, length, get_or, take, drop}
 use mathlib.Core.List.{List, ◌++◌, map, flatten}
 use Rattle.gray_theory.specs.Radices.{size, all_from}
+use Rattle.gray_theory.specs.Words.{even}
 use Rattle.gray_theory.specs.Places.{placed}
 use Rattle.lister_theory.specs.Listers.{listing}
 
@@ -16,6 +17,14 @@ laid at fixed words out = placed at (flatten (map (λ w. fixed ++ w) words)) out
 -- the notch that a lister comes to after u others, of m
 abbrev pub notch_after : Bool → ℕ → ℕ → ℕ
 notch_after down m u = cond down (m - 1 - u) u
+
+-- the lister of the digits after one at notch a: the same after an even notch, the other after an odd one
+abbrev pub way_after : Bool → ℕ → Bool
+way_after down a = cond (even a) down (not down)
+
+-- the window after a block of q words of n bytes each
+abbrev pub Past : (n q s t at s' t' at' : ℕ) → Type 0
+Past n q s t at s' t' at' = (s' ≡ s - q) × (t' ≡ t - (q - s)) × (at' + t' * n ≡ at + t * n)
 
 -- a table that has for each digit the number of words of those after it
 abbrev pub Sized : List ℕ → List ℕ → Type 0

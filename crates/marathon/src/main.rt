@@ -4,35 +4,24 @@
 
 #![tactic(auto)]
 
-ghost use Rattle.std.specs.Prelude.{◌≤◌, length};
+ghost use Rattle.std.specs.Prelude.{◌≤◌};
 
 use ahead::Walk;
 use engines::Engine;
-use gray::{Counted, DIGITS, Opening, Running};
+use gray::{DIGITS, Refusal, Running};
 use reader::{Found, Reader};
 use towers::Towers;
 
-// How a walk came out: the end after so many moves, a run that was refused or stopped, or no end in N moves.
-#[derive(Clone, Copy)]
-enum Outcome {
-    Finished(u64),
-    Refused(u8),
+// Why a walk came to no end: a call that was refused, or no end in N moves.
+#[derive(Clone, Copy, Debug, PartialEq, Eq)]
+enum Unended {
+    Refused(Refusal),
     Unfinished,
 }
 
-// An engine as its walk has left it, and how that came out.
-#[derive(Clone, Copy)]
-struct Finish {
-    engine: Engine,
-    outcome: Outcome,
-}
-
+// (Each program has these few lines of its own: a crate for them would be no plainer.)
 fn print(bytes: &[u8]) {
     io::write_all(1, bytes);
-}
-
-fn wide(x: u8) -> u64 {
-    x as u64
 }
 
 // The moves of whole parts and of the last run. N is at most 2^62, so that nothing is cut off here.
@@ -40,46 +29,38 @@ fn moves_in(parts: u64, last: u64) -> u64 {
     parts % 0x0008_0000_0000_0000 * 4096 + last % 4096
 }
 
-// After whole parts comes a run that answers this.
-fn outcome_of(parts: u64, answer: Running) -> Outcome {
-    match answer {
-        Running::Made(_) => Outcome::Unfinished,
-        Running::Ended(last) => Outcome::Finished(moves_in(parts, last)),
-        Running::Stopped(_, k) => Outcome::Refused(k),
-        Running::Refused(k) => Outcome::Refused(k),
+// What a run after so many whole parts says of the walk, and nothing where it makes all its moves.
+fn outcome(parts: u64, ran: Result<Running, Refusal>) -> Option<Result<u64, Unended>> {
+    match ran {
+        Ok(Running::Made(_)) => None,
+        Ok(Running::Ended(last)) => Some(Ok(moves_in(parts, last))),
+        Ok(Running::Stopped(_, refusal)) => Some(Err(Unended::Refused(refusal))),
+        Err(refusal) => Some(Err(Unended::Refused(refusal))),
     }
 }
 
-// Runs of 4,096 moves are made until one does not make them all. The bytes of the moves are left.
-fn run(fresh: Engine, total: u64) -> Finish {
+// Runs of 4,096 moves are made until one does not make them all: the engine as this leaves it, and the moves to the end. The
+// bytes of the moves are left.
+fn run(fresh: Engine, total: u64) -> (Engine, Result<u64, Unended>) {
     let mut bytes = [0u8; 4096];
     let mut engine = fresh;
-    let mut parts: u64 = 0;
-    while parts <= total / 4096 {
-        let ran = engine.run(4096, &mut bytes);
-        engine = ran.engine;
-        let answer = ran.answer;
-        let Running::Made(_) = answer else {
-            return Finish {
-                engine: engine,
-                outcome: outcome_of(parts, answer),
-            };
-        };
-        parts += 1;
+    for parts in 0..=total / 4096 {
+        let (next, ran) = engine.run(4096, &mut bytes);
+        engine = next;
+        if let Some(ended) = outcome(parts, ran) {
+            return (engine, ended);
+        }
     }
-    Finish {
-        engine: engine,
-        outcome: Outcome::Unfinished,
-    }
+    (engine, Err(Unended::Unfinished))
 }
 
 fn print_number(n: u64) {
     io::print_decimal(1, n);
 }
 
-fn print_refused(k: u8) {
+fn print_refused(refusal: Refusal) {
     print(b"refused ");
-    print_number(wide(k));
+    print_number(u64::from(u8::from(refusal)));
     print(b"\n");
 }
 
@@ -87,17 +68,15 @@ fn print_refused(k: u8) {
 fn print_word(word: [u8; DIGITS], n: usize)
     requires { n ≤ 48 }
 {
-    let mut i = n;
-    while 0 < i {
-        i -= 1;
-        print_number(wide(word[i]));
+    for i in (0..n).rev() {
+        print_number(u64::from(word[i]));
         if 0 < i {
             print(b".");
         }
     }
 }
 
-fn print_finished(n: usize, moves: u64, word: [u8; DIGITS])
+fn print_ended(n: usize, moves: u64, word: [u8; DIGITS])
     requires { n ≤ 48 }
 {
     print(b"moves ");
@@ -107,71 +86,44 @@ fn print_finished(n: usize, moves: u64, word: [u8; DIGITS])
     print(b"\n");
 }
 
-fn print_finish(n: usize, finish: Finish)
+// The walk of an engine on n digits that was opened, or its refusal: `total` is N.
+fn walk(opened: Result<(), Refusal>, fresh: Engine, n: usize, total: u64)
     requires { n ≤ 48 }
 {
-    let engine = finish.engine;
-    let outcome = finish.outcome;
-    match outcome {
-        Outcome::Finished(moves) => print_finished(n, moves, engine.setting()),
-        Outcome::Refused(k) => print_refused(k),
-        Outcome::Unfinished => print(b"unfinished\n"),
+    if let Err(refusal) = opened {
+        print_refused(refusal);
+        return;
+    }
+    let (engine, ended) = run(fresh, total);
+    match ended {
+        Ok(moves) => print_ended(n, moves, engine.setting()),
+        Err(Unended::Refused(refusal)) => print_refused(refusal),
+        Err(Unended::Unfinished) => print(b"unfinished\n"),
     }
 }
 
-// The two walks of a survey: `total` is N.
-fn walk_ahead(radices: &[u8], total: u64)
-    requires { length radices.now ≤ 48 }
-{
+// The two walks of a survey.
+fn walk_both(radices: &[u8]) -> Result<(), Refusal> {
+    let total = gray::size(radices)?;
     let n = radices.len();
     print(b"buffer ");
-    let opened = Walk::closed().open(radices, (n + 1) / 2);
-    let answer = opened.answer;
-    if let Opening::Refused(k) = answer {
-        print_refused(k);
-        return;
-    }
-    let fresh = opened.walk;
-    print_finish(n, run(Engine::of_walk(fresh), total));
-}
-
-fn walk_disks(radices: &[u8], total: u64)
-    requires { length radices.now ≤ 48 }
-{
-    let n = radices.len();
+    let (buffered, opened) = Walk::closed().open(radices, n.div_ceil(2));
+    walk(opened, Engine::of_walk(buffered), n, total);
     print(b"disks ");
-    let opened = Towers::closed().open(radices);
-    let answer = opened.answer;
-    if let Opening::Refused(k) = answer {
-        print_refused(k);
-        return;
-    }
-    let fresh = opened.towers;
-    print_finish(n, run(Engine::of_towers(fresh), total));
-}
-
-fn walk_all(radices: &[u8]) {
-    let counted = gray::size(radices);
-    let Counted::Size(total) = counted else {
-        print_refused(counted.number());
-        return;
-    };
-    walk_ahead(radices, total);
-    walk_disks(radices, total);
-}
-
-fn walk_line(reader: Reader) {
-    let found = reader.found();
-    let Found::Counts(n) = found else {
-        print(b"unread\n");
-        return;
-    };
-    let counts = reader.counts;
-    walk_all(&counts[..n]);
+    let (disks, opened) = Towers::closed().open(radices);
+    walk(opened, Engine::of_towers(disks), n, total);
+    Ok(())
 }
 
 fn main() {
     let mut line = [0u8; 256];
     let got = io::read_full(0, &mut line);
-    walk_line(Reader::fresh().read(&line[..got]));
+    let reader = Reader::fresh().read(&line[..got]);
+    let Found::Counts(n) = reader.found() else {
+        print(b"unread\n");
+        return;
+    };
+    if let Err(refusal) = walk_both(&reader.counts[..n]) {
+        print_refused(refusal);
+    }
 }

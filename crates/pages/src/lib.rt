@@ -4,7 +4,7 @@
 
 ghost use Rattle.std.specs.Prelude.{◌≡◌, take};
 ghost use Rattle.gray_theory.specs.Answers.{Wrote};
-ghost use Rattle.gray.specs.Enums.{stepping_as, written_as};
+ghost use Rattle.gray.specs.Enums.{stepping_as, answer_as};
 ghost use Rattle.ahead.specs.Structs.{walk_as};
 ghost use Rattle.text_theory.specs.Surveys.{unread};
 ghost use Rattle.text_theory.specs.Lines.{line_call};
@@ -13,7 +13,7 @@ ghost use Rattle.pages_theory.specs.Pages.{half_of, printing_of, begun, is_last,
 ghost use Rattle.pages.specs.Structs.{printing_as, filled_as};
 
 use ahead::Walk;
-use gray::{Stepping, Written};
+use gray::{Refusal, Stepping};
 use reader::{Found, Reader};
 use text_theory::Line;
 
@@ -25,6 +25,7 @@ pub struct Printing {
 }
 
 // What is to be printed behind a page, how many bytes of the page are used, and whether it is the last one.
+// (`rest` and `last` are no Option, since `filling` says what `rest` is on the last page too.)
 #[derive(Clone, Copy)]
 pub struct Filled {
     pub rest: Printing,
@@ -39,17 +40,16 @@ fn half(count: u8) -> usize
     if count == 0 {
         return 1;
     }
-    (count as usize + 1) / 2
+    usize::from(count).div_ceil(2)
 }
 
 // For what is no line of counts.
 fn of_unread() -> Printing
     ensures { printing_as result ≡ begun unread }
 {
-    let walk = Walk::closed();
     Printing {
         line: Line::Unread,
-        walk: walk,
+        walk: Walk::closed(),
     }
 }
 
@@ -58,35 +58,30 @@ fn of_survey(radices: &[u8]) -> Printing
     ensures { printing_as result ≡ printing_of radices.now }
 {
     let moving = digit::moving(radices);
-    let opened = Walk::closed().open(radices, half(moving.count));
-    let walk = opened.walk;
-    let line = text::survey_line(radices);
+    let (walk, _) = Walk::closed().open(radices, half(moving.count));
     Printing {
-        line: line,
-        walk: walk,
+        line: text::survey_line(radices),
+        walk,
     }
 }
 
 // The line of a call, with the moves that are made then.
-fn call_line(answer: Stepping, moves: u64) -> Line
+fn call_line(answer: Result<Stepping, Refusal>, moves: u64) -> Line
     ensures { result ≡ call_line (stepping_as answer) moves }
 {
     match answer {
-        Stepping::Moved(digit, down, _) => Line::Moved(moves, digit, down),
-        Stepping::End => Line::End(moves),
-        Stepping::Refused(k) => Line::Refused(k),
+        Ok(Stepping::Moved(digit, down, _)) => Line::Moved(moves, digit, down),
+        Ok(Stepping::End) => Line::End(moves),
+        Err(refusal) => Line::Refused(u8::from(refusal)),
     }
 }
 
 fn called(walk: Walk) -> Printing
     ensures { printing_as result ≡ calledOf (walk_as walk) }
 {
-    let stepped = walk.step();
-    let answer = stepped.answer;
-    let next = stepped.walk;
-    let line = call_line(answer, next.moves);
+    let (next, answer) = walk.step();
     Printing {
-        line: line,
+        line: call_line(answer, next.moves),
         walk: next,
     }
 }
@@ -96,12 +91,9 @@ impl Printing {
     pub fn of_reader(reader: Reader) -> Printing
         ensures { printing_as result ≡ begun (reader_input reader) }
     {
-        let counts = reader.counts;
-        let found = reader.found();
-        match found {
-            Found::Counts(n) => of_survey(&counts[..n]),
-            Found::More => of_unread(),
-            Found::Unread => of_unread(),
+        match reader.found() {
+            Found::Counts(n) => of_survey(&reader.counts[..n]),
+            Found::More | Found::Unread => of_unread(),
         }
     }
 
@@ -109,45 +101,30 @@ impl Printing {
     fn behind(self) -> Printing
         ensures { printing_as result ≡ behindOf self.line (walk_as self.walk) }
     {
-        let line = self.line;
-        let walk = self.walk;
-        match line {
-            Line::Sizes(_, _) => Printing {
+        match self.line {
+            Line::Sizes(..) => Printing {
                 line: Line::Start,
-                walk: walk,
+                ..self
             },
-            Line::Start => called(walk),
-            Line::Moved(_, _, _) => called(walk),
-            Line::Unread => self,
-            Line::Refused(_) => self,
-            Line::Long => self,
-            Line::End(_) => self,
+            Line::Start | Line::Moved(..) => called(self.walk),
+            Line::Unread | Line::Refused(_) | Line::Long | Line::End(_) => self,
         }
     }
 
     // The line, at the start of `out`.
-    fn write(self, out: &mut [u8]) -> Written
-        ensures { Wrote (line_call self.line (take self.walk.n self.walk.word)) (written_as result) out.old out.new }
+    fn write(self, out: &mut [u8]) -> Result<usize, Refusal>
+        ensures { Wrote (line_call self.line (take self.walk.n self.walk.word)) (answer_as result) out.old out.new }
     {
-        let line = self.line;
-        let walk = self.walk;
-        let word = walk.word;
-        text::write_line(line, word, walk.n, out)
+        text::write_line(self.line, self.walk.word, self.walk.n, out)
     }
 
     fn is_last(self) -> bool
         ensures { result ≡ is_last self.line }
     {
-        let line = self.line;
-        match line {
-            Line::Unread => true,
-            Line::Refused(_) => true,
-            Line::Long => true,
-            Line::Sizes(_, _) => false,
-            Line::Start => false,
-            Line::Moved(_, _, _) => false,
-            Line::End(_) => true,
-        }
+        matches!(
+            self.line,
+            Line::Unread | Line::Refused(_) | Line::Long | Line::End(_)
+        )
     }
 
     // As many whole lines as the page holds, from its start on.
@@ -158,10 +135,10 @@ impl Printing {
         let mut used = 0;
         loop {
             let written = printing.write(&mut page[used..]);
-            let Written::Bytes(k) = written else {
+            let Ok(k) = written else {
                 return Filled {
                     rest: printing,
-                    used: used,
+                    used,
                     last: false,
                 };
             };
@@ -169,7 +146,7 @@ impl Printing {
             if printing.is_last() {
                 return Filled {
                     rest: printing,
-                    used: used,
+                    used,
                     last: true,
                 };
             }

@@ -1,17 +1,16 @@
 -- Texts that `number` reads, and texts that it does not; and what a reader has found of a line of which a part has come.
-use Rattle.std.specs.Prelude.{ℕ, ◌≡◌, refl, List, [], ◌∷◌, map}
+use Rattle.std.specs.Prelude.{ℕ, ◌≡◌, refl, List, [], ◌∷◌, map, Some, None}
 use Rattle.text_theory.specs.Ascii.{ascii}
 use Rattle.text_theory.specs.Decimals.{all_digits, value_from, is_number}
 use Rattle.text_theory.specs.Surveys.{is_count}
 use Rattle.reader.specs.Parsing.{number_of}
 use Rattle.reader.specs.Readers.{fresh_reader, byte_read, field_read, line_read, more_read, read, found_in}
-use Rattle.reader.specs.declared.Parsed.TheVariants.{Number, Unread as ParsedUnread}
 use Rattle.reader.specs.declared.Found.{Found}
 use Rattle.reader.specs.declared.Found.TheVariants.{More, Counts, Unread}
 
 -- a number, with a zero in front too; no digit, and a byte that is none
 pub numbers-read :
-    map number_of (ascii "40" ∷ ascii "040" ∷ [] ∷ ascii "4 0" ∷ []) ≡ Number 40 ∷ Number 40 ∷ ParsedUnread ∷ ParsedUnread ∷ []
+    map number_of (ascii "40" ∷ ascii "040" ∷ [] ∷ ascii "4 0" ∷ []) ≡ Some 40 ∷ Some 40 ∷ None ∷ None ∷ []
 unfolding number_of is_number all_digits value_from
 numbers-read = refl
 

@@ -1,23 +1,25 @@
 -- Digits read one by one: what the proofs of the functions that read numbers cite.
 use Prim.Native.Nat.{ℕ, ◌+◌, ◌-◌, ◌*◌, ◌^◌, ◌≤◌, ◌<◌}
 use native.Mathlib.Omega.{arith}
-use native.Mathlib.Decide.{dec_lt}
-use mathlib.Core.Path.{◌≡◌, refl, ap, ◌∙◌}
-use mathlib.Core.Bool.{true, false, cond, ◌&&◌, and-false}
+use native.Mathlib.Numerals.{add-one}
+use mathlib.Core.Path.{◌≡◌, refl, sym, ap, ◌∙◌}
+use mathlib.Core.Bool.{Bool, true, false, cond, ◌&&◌, and-false}
 use mathlib.Core.List.{List, [], ◌∷◌}
-use borrow.Author.Tests.{le-ltb, lt-ltb, le-leb, lt-leb}
-use lib.Dec.{ltb, leb}
-use lib.ListN.{length}
-use Rattle.text_theory.specs.Decimals.{is_digit, all_digits, value_from, is_number, digit_of}
+use borrow.Author.Tests.{le-ltb, lt-ltb}
+use Rattle.std.specs.Prelude.{Option, Some, None}
+use Rattle.std.proofs.lemmas.Option.{none-some, cond_some}
+use lib.Dec.{ltb}
+use lib.ListN.{length, get_or, drop}
+use lib.Seq.{drop-cons}
+use Rattle.text_theory.specs.Decimals.{is_digit, all_digits, value_from, is_number}
 use Rattle.reader.specs.Parsing.{number_of}
-use Rattle.reader.specs.declared.Parsed.{Parsed}
-use Rattle.reader.specs.declared.Parsed.TheVariants.{Number, Unread}
+use Rattle.reader.specs.Stages.{digit_at}
 
 -- what digits say behind digits that say v
-abbrev pub number_from : ℕ → List ℕ → Parsed
-number_from v bs = cond (all_digits bs && ltb (value_from v bs) (2 ^ 64)) (Number (value_from v bs)) Unread
+abbrev pub number_from : ℕ → List ℕ → Option ℕ
+number_from v bs = cond (all_digits bs && ltb (value_from v bs) (2 ^ 64)) (Some (value_from v bs)) None
 
-pub none_read : (bs : List ℕ) → length bs ≡ 0 → number_of bs ≡ Unread
+pub none_read : (bs : List ℕ) → length bs ≡ 0 → number_of bs ≡ None
 unfolding number_of is_number
 none_read bs h = rw h refl
 
@@ -25,7 +27,7 @@ pub begun : (bs : List ℕ) → 0 < length bs → number_of bs ≡ number_from 0
 unfolding number_of is_number
 begun bs h = rw (lt-ltb 0 (length bs) h) refl
 
-pub ended : (v : ℕ) → v < 2 ^ 64 → number_from v [] ≡ Number v
+pub ended : (v : ℕ) → v < 2 ^ 64 → number_from v [] ≡ Some v
 unfolding all_digits value_from
 ended v h = rw (lt-ltb v (2 ^ 64) h) refl
 
@@ -33,13 +35,13 @@ pub joined : (v b : ℕ) (bs : List ℕ) → is_digit b ≡ true → number_from
 unfolding all_digits value_from
 joined v b bs e =
     ap (λ t. cond (t && all_digits bs && ltb (value_from (v * 10 + (b - 48)) bs) (2 ^ 64))
-    (Number (value_from (v * 10 + (b - 48)) bs)) Unread) e
+    (Some (value_from (v * 10 + (b - 48)) bs)) None) e
 
-pub other : (v b : ℕ) (bs : List ℕ) → is_digit b ≡ false → number_from v (b ∷ bs) ≡ Unread
+pub other : (v b : ℕ) (bs : List ℕ) → is_digit b ≡ false → number_from v (b ∷ bs) ≡ None
 unfolding all_digits value_from
 other v b bs e =
     ap (λ t. cond (t && all_digits bs && ltb (value_from (v * 10 + (b - 48)) bs) (2 ^ 64))
-    (Number (value_from (v * 10 + (b - 48)) bs)) Unread) e
+    (Some (value_from (v * 10 + (b - 48)) bs)) None) e
 
 pub grows : (v : ℕ) (bs : List ℕ) → v ≤ value_from v bs
 unfolding value_from
@@ -47,47 +49,33 @@ grows v [] = omega arith
 grows v (b ∷ bs) = let h = grows (v * 10 + (b - 48)) bs in omega arith
 
 -- a value that is too large stays so
-pub over : (v : ℕ) (bs : List ℕ) → 2 ^ 64 ≤ v → number_from v bs ≡ Unread
+pub over : (v : ℕ) (bs : List ℕ) → 2 ^ 64 ≤ v → number_from v bs ≡ None
 over v bs h =
     let large : 2 ^ 64 ≤ value_from v bs = omega (arith, grows v bs) in
     rw (le-ltb (value_from v bs) (2 ^ 64) large, and-false (all_digits bs)) refl
 
--- the three cases of a byte's value as a digit
-pub digit_below : (b : ℕ) → b < 48 → (is_digit b ≡ false) × (digit_of b ≡ 10)
-unfolding digit_of
-digit_below b h = let e = lt-leb 48 b h in (ap (λ t. t && leb b 57) e, ap (λ t. cond (t && leb b 57) (b - 48) 10) e)
+-- ---- a digit
+pub some_no : (t : Bool) (v : ℕ) → cond t (Some v) None ≡ None → t ≡ false
+some_no true v e = absurd (none-some v (sym e))
+some_no false v e = refl
 
-pub digit_above : (b : ℕ) → 48 ≤ b → 57 < b → (is_digit b ≡ false) × (digit_of b ≡ 10)
-unfolding digit_of
-digit_above b h k =
-    let e : is_digit b ≡ false = ap (λ t. t && leb b 57) (le-leb 48 b h) ∙ lt-leb b 57 k in
-    (e, ap (λ t. cond t (b - 48) 10) e)
+-- ---- the next byte, in front of the rest
+module _ (bytes : List ℕ) (v i : ℕ) (inside : i < length bytes) (so_far : number_of bytes ≡ number_from v (drop i bytes)) where
+  next : number_of bytes ≡ number_from v (get_or bytes i 0 ∷ drop (i + 1) bytes)
+  next = rw add-one (so_far ∙ ap (number_from v) (drop-cons bytes i 0 inside))
 
-pub digit_within : (b : ℕ) → 48 ≤ b → b ≤ 57 → (is_digit b ≡ true) × (digit_of b ≡ b - 48)
-unfolding digit_of
-digit_within b h k =
-    let e : is_digit b ≡ true = ap (λ t. t && leb b 57) (le-leb 48 b h) ∙ le-leb b 57 k in
-    (e, ap (λ t. cond t (b - 48) 10) e)
+  -- it is no digit
+  pub unread : digit_at (get_or bytes i 0) ≡ None → None ≡ number_of bytes
+  unfolding digit_at
+  unread e = sym (next ∙ other v (get_or bytes i 0) (drop (i + 1) bytes) (some_no (is_digit (get_or bytes i 0)) (get_or bytes i 0 - 48) e))
 
--- what a value says of its byte
-pub a_digit : (b d : ℕ) → d ≡ digit_of b → d ≤ 9 → (is_digit b ≡ true) × (d ≡ b - 48)
-a_digit b d e h =
-    elim (dec_lt b 48) [
-      | yes p ↦ let z = (digit_below b p).1 in absurd (omega arith)
-      | no q ↦
-          elim (dec_lt 57 b) [
-            | yes p ↦ let z = (digit_above b (omega arith) p).1 in absurd (omega arith)
-            | no p ↦ let z = digit_within b (omega arith) (omega arith) in (z.0, e ∙ z.1)
-          ]
-    ]
+  module _ (d : ℕ) (digit : digit_at (get_or bytes i 0) ≡ Some d) where
+    -- the digit joined to the value
+    pub turn : number_of bytes ≡ number_from (v * 10 + d) (drop (i + 1) bytes)
+    unfolding digit_at
+    turn =
+        let (is, same) = cond_some (is_digit (get_or bytes i 0)) (get_or bytes i 0 - 48) d digit in
+        rw (← same) (next ∙ joined v (get_or bytes i 0) (drop (i + 1) bytes) is)
 
-pub no_digit : (b d : ℕ) → d ≡ digit_of b → 9 < d → is_digit b ≡ false
-no_digit b d e h =
-    elim (dec_lt b 48) [
-      | yes p ↦ (digit_below b p).0
-      | no q ↦
-          elim (dec_lt 57 b) [
-            | yes p ↦ (digit_above b (omega arith) p).0
-            | no p ↦ let z = (digit_within b (omega arith) (omega arith)).1 in absurd (omega arith)
-          ]
-    ]
+    pub too_large : 2 ^ 64 ≤ v * 10 + d → None ≡ number_of bytes
+    too_large h = sym (turn ∙ over (v * 10 + d) (drop (i + 1) bytes) h)

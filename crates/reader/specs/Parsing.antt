@@ -1,8 +1,6 @@
 -- What `number` answers: the number that decimal digits say.
-use Rattle.std.specs.Prelude.{ℕ, cond, List}
+use Rattle.std.specs.Prelude.{ℕ, cond, List, Option, Some, None}
 use Rattle.text_theory.specs.Decimals.{value, is_number}
-use Rattle.reader.specs.declared.Parsed.{Parsed}
-use Rattle.reader.specs.declared.Parsed.TheVariants.{Number, Unread}
 
-unfoldable pub number_of : List ℕ → Parsed
-number_of bs = cond (is_number bs) (Number (value bs)) Unread
+unfoldable pub number_of : List ℕ → Option ℕ
+number_of bs = cond (is_number bs) (Some (value bs)) None

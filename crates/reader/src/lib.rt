@@ -2,23 +2,15 @@
 
 #![tactic(auto)]
 
-ghost use Rattle.std.specs.Prelude.{◌≡◌, ◌≤◌, min as minOf, length};
-ghost use Rattle.text_theory.specs.Decimals.{digit_of};
+ghost use Rattle.std.specs.Prelude.{◌≡◌, ◌≤◌, length};
 ghost use Rattle.reader.specs.Parsing.{number_of};
 ghost use Rattle.reader.specs.Readers.{fresh_reader, in_phase, byte_read, count_kept, field_read, line_read, more_read, read_in, read as read_of, found_in};
-ghost use Rattle.reader.specs.Stages.{count_of};
+ghost use Rattle.reader.specs.Stages.{digit_at, count_of};
 
 use gray::DIGITS;
 
-// What `number` answers.
-#[derive(Clone, Copy)]
-pub enum Parsed {
-    Number(u64),
-    Unread,
-}
-
 // How far a line has been read: it goes on, it has ended, or it is no line of counts.
-#[derive(Clone, Copy)]
+#[derive(Clone, Copy, Debug, PartialEq, Eq)]
 pub enum Phase {
     More,
     Ended,
@@ -29,7 +21,8 @@ pub enum Phase {
 const KEPT: usize = DIGITS + 1;
 
 // The reader of the line of counts: the counts so far, and the bytes of the field that is being read.
-#[derive(Clone, Copy)]
+// Arrays with `kept` and `digits` beside them, and no Vec: its memory is fixed.
+#[derive(Clone, Copy, Debug, PartialEq, Eq)]
 pub struct Reader {
     pub counts: [u8; KEPT],
     pub kept: u8,
@@ -39,78 +32,46 @@ pub struct Reader {
 }
 
 // What a reader has found: that the line goes on, how many counts are kept once it has ended, or that it is no line of counts.
-#[derive(Clone, Copy)]
+// A case more than an Option has: a line that goes on is read further, one that is no line of counts isn't.
+#[derive(Clone, Copy, Debug, PartialEq, Eq)]
 pub enum Found {
     More,
     Counts(usize),
     Unread,
 }
 
-// A field as a notch count.
-#[derive(Clone, Copy)]
-enum Count {
-    Is(u8),
-    Unread,
-}
-
-// The value of a decimal digit; 10 for any other byte.
-fn digit(byte: u8) -> u64
-    ensures { result ≡ digit_of byte }
+// The value of a decimal digit.
+fn digit(byte: u8) -> Option<u64>
+    ensures { result ≡ digit_at byte }
 {
-    if byte < b'0' {
-        return 10;
+    match byte {
+        b'0'..=b'9' => Some(u64::from(byte - b'0')),
+        _ => None,
     }
-    if b'9' < byte {
-        return 10;
-    }
-    (byte - b'0') as u64
 }
 
 // The number that decimal digits say, where there is one digit at least and 64 bits hold the value.
-pub fn number(bytes: &[u8]) -> Parsed
+pub fn number(bytes: &[u8]) -> Option<u64>
     ensures { result ≡ number_of bytes.now }
 {
-    if bytes.len() == 0 {
-        return Parsed::Unread;
+    if bytes.is_empty() {
+        return None;
     }
     let mut value: u64 = 0;
-    let mut i = 0;
-    while i < bytes.len() {
-        let d = digit(bytes[i]);
-        if 9 < d {
-            return Parsed::Unread;
-        }
-        if (u64::MAX - d) / 10 < value {
-            return Parsed::Unread;
-        }
-        value = value * 10 + d;
-        i += 1;
+    for &byte in bytes {
+        let d = digit(byte)?;
+        value = value.checked_mul(10)?.checked_add(d)?;
     }
-    Parsed::Number(value)
-}
-
-fn min(most: usize, n: u8) -> usize
-    ensures { result ≡ minOf n most }
-{
-    if most < n as usize {
-        return most;
-    }
-    n as usize
+    Some(value)
 }
 
 // A field of at most three bytes as a notch count.
-fn as_count(field: &[u8]) -> Count
+fn as_count(field: &[u8]) -> Option<u8>
     requires { length field.now ≤ 3 }
     ensures { result ≡ count_of field.now }
 {
-    let parsed = number(field);
-    let Parsed::Number(value) = parsed else {
-        return Count::Unread;
-    };
-    if 255 < value {
-        return Count::Unread;
-    }
-    Count::Is(value as u8)
+    let value = number(field)?;
+    u8::try_from(value).ok()
 }
 
 impl Reader {
@@ -129,76 +90,45 @@ impl Reader {
     fn in_phase(self, phase: Phase) -> Reader
         ensures { result ≡ in_phase phase self }
     {
-        let counts = self.counts;
-        let field = self.field;
-        Reader {
-            counts: counts,
-            kept: self.kept,
-            field: field,
-            digits: self.digits,
-            phase: phase,
-        }
+        Reader { phase, ..self }
     }
 
     // A byte of a field.
-    fn byte(self, byte: u8) -> Reader
+    fn byte(mut self, byte: u8) -> Reader
         ensures { result ≡ byte_read self byte }
     {
-        let digits = self.digits;
-        if 3 <= digits {
+        if 3 <= self.digits {
             return self.in_phase(Phase::Unread);
         }
-        let counts = self.counts;
-        let mut field = self.field;
-        let phase = self.phase;
-        field[digits as usize] = byte;
-        Reader {
-            counts: counts,
-            kept: self.kept,
-            field: field,
-            digits: digits + 1,
-            phase: phase,
-        }
+        self.field[usize::from(self.digits)] = byte;
+        self.digits += 1;
+        self
     }
 
     // The end of a field, with the phase that comes then.
     fn end_field(self, next: Phase) -> Reader
         ensures { result ≡ field_read self next }
     {
-        let field = self.field;
-        let digits = self.digits;
-        let k = min(3, digits);
-        let counted = as_count(&field[..k]);
-        let Count::Is(value) = counted else {
-            return self.in_phase(Phase::Unread);
-        };
-        self.keep(value, next)
+        let k = usize::from(self.digits).min(3);
+        match as_count(&self.field[..k]) {
+            Some(value) => self.keep(value, next),
+            None => self.in_phase(Phase::Unread),
+        }
     }
 
     // One count more; those that come after the last that is kept are passed over.
-    fn keep(self, value: u8, next: Phase) -> Reader
+    fn keep(mut self, value: u8, next: Phase) -> Reader
         ensures { result ≡ count_kept self value next }
     {
-        let mut counts = self.counts;
-        let field = self.field;
-        let kept = self.kept;
-        let place = kept as usize;
-        if KEPT <= place {
-            return Reader {
-                counts: counts,
-                kept: kept,
-                field: field,
-                digits: 0,
-                phase: next,
-            };
+        let place = usize::from(self.kept);
+        if place < KEPT {
+            self.counts[place] = value;
+            self.kept += 1;
         }
-        counts[place] = value;
         Reader {
-            counts: counts,
-            kept: kept + 1,
-            field: field,
             digits: 0,
             phase: next,
+            ..self
         }
     }
 
@@ -226,11 +156,9 @@ impl Reader {
     fn one(self, byte: u8) -> Reader
         ensures { result ≡ read_in self.phase self byte }
     {
-        let phase = self.phase;
-        match phase {
+        match self.phase {
             Phase::More => self.more(byte),
-            Phase::Ended => self,
-            Phase::Unread => self,
+            Phase::Ended | Phase::Unread => self,
         }
     }
 
@@ -239,10 +167,8 @@ impl Reader {
         ensures { result ≡ read_of self bytes.now }
     {
         let mut reader = self;
-        let mut i = 0;
-        while i < bytes.len() {
-            reader = reader.one(bytes[i]);
-            i += 1;
+        for &byte in bytes {
+            reader = reader.one(byte);
         }
         reader
     }
@@ -250,12 +176,10 @@ impl Reader {
     pub fn found(self) -> Found
         ensures { result ≡ found_in self.phase self.kept }
     {
-        let phase = self.phase;
-        let kept = self.kept;
-        match phase {
+        match self.phase {
             Phase::More => Found::More,
             Phase::Unread => Found::Unread,
-            Phase::Ended => Found::Counts(min(KEPT, kept)),
+            Phase::Ended => Found::Counts(usize::from(self.kept).min(KEPT)),
         }
     }
 }

@@ -10,65 +10,67 @@ ghost use Rattle.runs.specs.Enums.{moves_as};
 ghost use Rattle.runs.specs.Stages.{moves_of};
 
 use ahead::Walk;
-use gray::{Opening, Running};
+use gray::{Refusal, Running};
 use towers::Towers;
 
 // At most t moves of a walk, whose state is not handed on. One function for both openings, so that the compiler puts the run
 // into it; where it took the opening's answer too, numbers of the run's loop were kept in memory, and a move took a tenth
 // longer.
-fn run_moves(walk: Walk, t: u64, out: &mut [u8]) -> Running
+fn run_moves(walk: Walk, t: u64, out: &mut [u8]) -> Result<Running, Refusal>
     ensures { moves_as result out.new ≡ moves_of (run_of (walk_as walk) t out.old) }
 {
-    let ran = walk.run(t, out);
-    ran.answer
+    let (_, answer) = walk.run(t, out);
+    answer
 }
 
 // At most t moves of a fresh walk by the buffered engine.
-pub fn walk_moves(radices: &[u8], capacity: usize, t: u64, out: &mut [u8]) -> Running
+#[tactic(auto, unfolding(runs_theory::specs::MoveCalls::walk_moves_call))]
+pub fn walk_moves(
+    radices: &[u8],
+    capacity: usize,
+    t: u64,
+    out: &mut [u8],
+) -> Result<Running, Refusal>
     ensures { moves_as result out.new ≡ walk_moves_call radices.now capacity t out.old }
 {
     let closed = Walk::closed();
-    let opened = closed.open(radices, capacity);
-    let answer = opened.answer;
-    let Opening::Open = answer else {
-        return Running::Refused(answer.number());
+    let (fresh, opened) = closed.open(radices, capacity);
+    let Ok(()) = opened else {
+        return Err(opened.unwrap_err());
     };
-    let fresh = opened.walk;
     run_moves(fresh, t, out)
 }
 
 // The same of a walk that is picked up at a word (a setting).
+#[tactic(auto, unfolding(runs_theory::specs::MoveCalls::resumed_moves_call))]
 pub fn resumed_moves(
     radices: &[u8],
     capacity: usize,
     word: &[u8],
     t: u64,
     out: &mut [u8],
-) -> Running
+) -> Result<Running, Refusal>
     ensures { moves_as result out.new
         ≡ resumed_moves_call radices.now capacity word.now t out.old }
 {
     let closed = Walk::closed();
-    let opened = closed.resume(radices, capacity, word);
-    let answer = opened.answer;
-    let Opening::Open = answer else {
-        return Running::Refused(answer.number());
+    let (picked_up, resumed) = closed.resume(radices, capacity, word);
+    let Ok(()) = resumed else {
+        return Err(resumed.unwrap_err());
     };
-    let picked_up = opened.walk;
     run_moves(picked_up, t, out)
 }
 
 // At most t moves of a fresh game by the disk engine.
-pub fn disk_moves(radices: &[u8], t: u64, out: &mut [u8]) -> Running
+#[tactic(auto, unfolding(runs_theory::specs::MoveCalls::disk_moves_call))]
+pub fn disk_moves(radices: &[u8], t: u64, out: &mut [u8]) -> Result<Running, Refusal>
     ensures { moves_as result out.new ≡ disk_moves_call radices.now t out.old }
 {
     let closed = Towers::closed();
-    let opened = closed.open(radices);
-    let answer = opened.answer;
-    let Opening::Open = answer else {
-        return Running::Refused(answer.number());
+    let (fresh, opened) = closed.open(radices);
+    let Ok(()) = opened else {
+        return Err(opened.unwrap_err());
     };
-    let fresh = opened.towers;
-    let played = fresh.run(t, out);
-    played.answer
+    let (_, answer) = fresh.run(t, out);
+    answer
 }

@@ -10,6 +10,7 @@ use Rattle.ahead_theory.specs.Locals as theory
 use Rattle.ahead_theory.specs.Stretches.{backed, Undone}
 use Rattle.ahead_theory.proofs.Stretches.{dry_undone, Kept, work-kept, twice-kept}
 use Rattle.stretch.specs.declared.Stage.{Stage}
+use Rattle.stretch.specs.declared.Event.TheVariants.{Moved, End, Dry}
 use Rattle.stretch.specs.Stages.{fast_of, called_as, FastWorkable, Moves, FastCallable}
 
 abbrev answer : ℕ → ℕ → Fast → List ℕ → List ℕ → theory.Called
@@ -64,7 +65,7 @@ module _
 
       -- dry
       pub runs_dry : at'.tail ≡ k → (back : List ℕ) → back ≡ backed rest' at.place at'.place
-          → called_as (record { at = at; kind = 2; byte = 0 }) back queue' left bytes ≡ fast_call tops last c k f left bytes
+          → called_as (at, Dry) back queue' left bytes ≡ fast_call tops last c k f left bytes
       unfolding fast_call
       runs_dry none back e =
           let tail : f2.tail ≡ k = ap (λ (g : Fast). g.tail) (sym is) ∙ none in
@@ -82,14 +83,14 @@ module _
         e_is = entry ∙ ap (λ (g : Fast). get_or g.queue k 0) is
 
         pub comes_to_the_end : e ≡ last
-            → called_as (record { at = at'; kind = 1; byte = 0 }) rest' queue' left bytes ≡ fast_call tops last c k f left bytes
+            → called_as (at', End) rest' queue' left bytes ≡ fast_call tops last c k f left bytes
         unfolding fast_call
         comes_to_the_end at_last =
             rw (ne_eqb f2.tail k more_there, eq-eqb (get_or f2.queue k 0) last (sym e_is ∙ at_last))
             (ap (λ (g : Fast). answer 1 0 g left bytes) is)
 
         pub moves_one : (e ≡ last → ⊥) → (byte : ℕ) (left' bytes' : List ℕ) → Moves tops left bytes e byte left' bytes'
-            → called_as (record { at = at'; kind = 0; byte = byte }) rest' queue' left' bytes' ≡ fast_call tops last c k f left bytes
+            → called_as (at', Moved byte) rest' queue' left' bytes' ≡ fast_call tops last c k f left bytes
         unfolding fast_call
         moves_one other byte left' bytes' m =
             rw (ne_eqb f2.tail k more_there, ne_eqb (get_or f2.queue k 0) last (λ x. other (e_is ∙ x)))

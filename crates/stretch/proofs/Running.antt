@@ -9,6 +9,7 @@ use mathlib.Core.List.{List, [], ◌∷◌, ◌++◌, append-nil, append_assoc}
 use borrow.Author.Tests.{ltb-true, leb-true, eqb-true, eq-eqb, ne_eqb}
 use lib.Dec.{eqb}
 use lib.ListN.{length, set, take, drop, length-append}
+use Rattle.std.specs.Prelude.{None, Some}
 use Rattle.gray_theory.specs.Arrays.{filled}
 use Rattle.gray_theory.proofs.Filled.{length-filled}
 use Rattle.gray_theory.specs.Places.{placed}
@@ -17,10 +18,13 @@ use Rattle.ahead_theory.specs.Locals as theory
 use Rattle.ahead_theory.specs.Locals.{Fast, FastRan, fast_call, fast_then, fast_run}
 use Rattle.ahead_theory.proofs.Stretches.{CallKept, call_kept, run-kept}
 use Rattle.stretch.specs.declared.Stage.{Stage}
-use Rattle.stretch.specs.declared.Called.{Called}
+use Rattle.stretch.specs.declared.Event.{Event}
+use Rattle.stretch.specs.declared.Event.TheVariants as events
+use Rattle.stretch.specs.declared.Event.TheVariants.{Moved}
+use Rattle.stretch.specs.declared.Stop.TheVariants.{End, Dry, Misfit}
 use Rattle.stretch.specs.declared.Ran.{Ran}
 use Rattle.stretch.proofs.Paths.{fits_none, fits_some}
-use Rattle.stretch.specs.Stages.{fast_of, called_as, Outcome, ran_as, ran_into, calls_by, stretch_as, from_oldest, fits_for, stretch_by, Long, Runnable}
+use Rattle.stretch.specs.Stages.{fast_of, called_as, kind_of, byte_of, Outcome, ran_as, ran_into, calls_by, stretch_as, from_oldest, fits_for, stretch_by, Long, Runnable}
 
 -- ---- the loop
 -- bytes of earlier calls, and what the later ones leave
@@ -96,19 +100,22 @@ module _ (last c limit : ℕ) (tops rest₀ queue₀ left₀ bytes₀ : List ℕ
 
     -- all calls are made
     pub full : limit ≤ k
-        → ran_as (record { made = k; taken = k; at = at; stop = 0 }) rest queue left bytes out
+        → ran_as (record { made = limit; taken = limit; at = at; stop = None }) rest queue left bytes out
         ≡ calls_by last c limit tops rest₀ queue₀ left₀ bytes₀ at₀ done before
     unfolding fast_run
     full all =
+        let within = g.within in
+        let same : limit ≡ k = omega arith in
         let none : limit - k ≡ 0 = omega arith in
-        finished (record { written = []; taken = k; stop = 0; fast = f; left = left; bytes = bytes }) refl
+        ap (λ n. ran_as (record { made = n; taken = n; at = at; stop = None }) rest queue left bytes out) same
+        ∙ finished (record { written = []; taken = k; stop = 0; fast = f; left = left; bytes = bytes }) refl
         (ap (λ j. fast_run tops last c j k f left bytes) none)
 
     module _ (less : k < limit) where
-      module _ (r : Called) (rest' queue' left' bytes' : List ℕ)
-          (is : called_as r rest' queue' left' bytes' ≡ fast_call tops last c k f left bytes) where
+      module _ (at' : Stage) (said : Event) (rest' queue' left' bytes' : List ℕ)
+          (is : called_as (at', said) rest' queue' left' bytes' ≡ fast_call tops last c k f left bytes) where
         abbrev a : theory.Called
-        a = called_as r rest' queue' left' bytes'
+        a = called_as (at', said) rest' queue' left' bytes'
 
         kept : CallKept last k f left bytes a
         kept =
@@ -137,23 +144,28 @@ module _ (last c limit : ℕ) (tops rest₀ queue₀ left₀ bytes₀ : List ℕ
             (λ (x : theory.Called). fast_then k x (fast_run tops last c (limit - (k + 1)) (k + 1) x.fast x.left x.bytes))
             (sym is)
 
-        pub dried : r.kind ≡ 2
-            → ran_as (record { made = k; taken = k; at = r.at; stop = 2 }) rest' queue' left' bytes' out
+        pub ended_there : said ≡ events.End
+            → ran_as (record { made = k; taken = k + 1; at = at'; stop = Some End }) rest' queue' left' bytes' out
             ≡ calls_by last c limit tops rest₀ queue₀ left₀ bytes₀ at₀ done before
-        dried two =
-            finished (record { written = []; taken = k; stop = 2; fast = a.fast; left = left'; bytes = bytes' }) refl
-            (next ∙ cond_1 (eqb r.kind 2) _ _ (eq-eqb r.kind 2 two))
-
-        pub ended_there : (r.kind ≡ 2 → ⊥) → r.kind ≡ 1
-            → ran_as (record { made = k; taken = k + 1; at = r.at; stop = 1 }) rest' queue' left' bytes' out
-            ≡ calls_by last c limit tops rest₀ queue₀ left₀ bytes₀ at₀ done before
-        ended_there not_two one =
+        ended_there e =
+            let one : a.kind ≡ 1 = ap kind_of e in
             finished (record { written = []; taken = k + 1; stop = 1; fast = a.fast; left = left'; bytes = bytes' }) refl
-            (next ∙ cond_2 (eqb r.kind 2) (eqb r.kind 1) _ _ _ (ne_eqb r.kind 2 not_two) (eq-eqb r.kind 1 one))
+            (next ∙ cond_2 (eqb a.kind 2) (eqb a.kind 1) _ _ _ (ne_eqb a.kind 2 (λ two. absurd (omega arith))) (eq-eqb a.kind 1 one))
 
-        pub again : (r.kind ≡ 2 → ⊥) → (r.kind ≡ 1 → ⊥)
-            → Going last c limit tops rest₀ queue₀ left₀ bytes₀ at₀ done before rest' queue' left' bytes' (set out (done + k) r.byte) r.at (k + 1)
-        again not_two not_one =
+        pub dried : said ≡ events.Dry
+            → ran_as (record { made = k; taken = k; at = at'; stop = Some Dry }) rest' queue' left' bytes' out
+            ≡ calls_by last c limit tops rest₀ queue₀ left₀ bytes₀ at₀ done before
+        dried e =
+            let two : a.kind ≡ 2 = ap kind_of e in
+            finished (record { written = []; taken = k; stop = 2; fast = a.fast; left = left'; bytes = bytes' }) refl
+            (next ∙ cond_1 (eqb a.kind 2) _ _ (eq-eqb a.kind 2 two))
+
+        pub again : (byte : ℕ) → said ≡ Moved byte
+            → Going last c limit tops rest₀ queue₀ left₀ bytes₀ at₀ done before rest' queue' left' bytes' (set out (done + k) byte) at' (k + 1)
+        again byte e =
+            let zero : a.kind ≡ 0 = ap kind_of e in
+            let not_two : a.kind ≡ 2 → ⊥ = λ two. absurd (omega arith) in
+            let not_one : a.kind ≡ 1 → ⊥ = λ one. absurd (omega arith) in
             let b = g.fits in
             let n = kept in
             let room = b.room in
@@ -177,20 +189,21 @@ module _ (last c limit : ℕ) (tops rest₀ queue₀ left₀ bytes₀ : List ℕ
               small = g.small;
               within = omega arith;
               behind = n.behind not_two;
-              sofar = g.sofar ++ (r.byte ∷ []);
-              count = length-append g.sofar (r.byte ∷ []) ∙ omega arith;
+              sofar = g.sofar ++ (byte ∷ []);
+              count = length-append g.sofar (byte ∷ []) ∙ omega arith;
               holds =
-                  ap (λ (x : List ℕ). set x (done + k) r.byte) g.holds
-                  ∙ ap (λ (j : ℕ). set (placed done g.sofar before) j r.byte) place
-                  ∙ placed-set done g.sofar before r.byte (omega arith);
+                  ap (λ (x : List ℕ). set x (done + k) byte) g.holds
+                  ∙ ap (λ (j : ℕ). set (placed done g.sofar before) j byte) place
+                  ∙ placed-set done g.sofar before byte (omega arith);
               whole =
                   g.whole
                   ∙ ap (λ (x : FastRan). ran_into (after g.sofar x) done before)
-                  (next ∙ cond_3 (eqb r.kind 2) (eqb r.kind 1) _ _ _ (ne_eqb r.kind 2 not_two) (ne_eqb r.kind 1 not_one))
+                  (next ∙ cond_3 (eqb a.kind 2) (eqb a.kind 1) _ _ _ (ne_eqb a.kind 2 not_two) (ne_eqb a.kind 1 not_one)
+                  ∙ ap (λ (y : Event). after (byte_of y ∷ []) more) e)
                   ∙ ap
                   (λ (x : List ℕ).
                   leaving (length x) more (placed done x before))
-                  (sym (append_assoc g.sofar (r.byte ∷ []) more.written));
+                  (sym (append_assoc g.sofar (byte ∷ []) more.written));
             }
 
 -- ---- the whole stretch
@@ -238,7 +251,7 @@ module _ (last c limit : ℕ) (tops rest left bytes entries : List ℕ) (at : St
   pub refuses : (ok : Bool)
       → ok ≡ fits_for last c limit tops rest left bytes at done out
       → ok ≡ false
-      → stretch_as (record { made = 0; entries = entries; at = at; stop = 3 }) rest left bytes out
+      → stretch_as (record { made = 0; entries = entries; at = at; stop = Some Misfit }) rest left bytes out
       ≡ stretch_by last c limit tops rest left bytes entries at done out
   unfolding stretch_by
   refuses ok is refused = rw (sym is ∙ refused)

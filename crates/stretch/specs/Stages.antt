@@ -1,27 +1,50 @@
 -- A stretch in the theory's terms, for all arrays and numbers, and what its private functions ask for and answer.
-use Rattle.std.specs.Prelude.{ℕ, ◌+◌, ◌-◌, ◌*◌, ◌^◌, ◌≤◌, ◌<◌, ◌≡◌, Bool, false, cond, ◌&&◌, List, eqb, leb, ltb, length, get_or, take, drop}
+use Rattle.std.specs.Prelude.{ℕ, ◌+◌, ◌-◌, ◌*◌, ◌^◌, ◌≤◌, ◌<◌, ◌≡◌, Bool, false, cond, ◌&&◌, List, eqb, leb, ltb, length, get_or, take, drop, Option, Some, None}
 use Rattle.gray_theory.specs.Arrays.{filled}
 use Rattle.gray_theory.specs.Places.{placed}
 use Rattle.ahead_theory.specs.Locals as theory
 use Rattle.ahead_theory.specs.Locals.{Fast, FastRan, left_moved, bytes_moved, fast_run}
 use Rattle.stretch.specs.declared.Stage.{Stage}
-use Rattle.stretch.specs.declared.Called.{Called}
+use Rattle.stretch.specs.declared.Event.{Event}
+use Rattle.stretch.specs.declared.Event.TheVariants as events
+use Rattle.stretch.specs.declared.Event.TheVariants.{Moved}
+use Rattle.stretch.specs.declared.Stop.{Stop}
+use Rattle.stretch.specs.declared.Stop.TheVariants.{End, Dry, Misfit}
 use Rattle.stretch.specs.declared.Ran.{Ran}
 use Rattle.stretch.specs.declared.Stretch.{Stretch}
 
 abbrev pub fast_of : List ℕ → List ℕ → Stage → Fast
 fast_of rest queue at = record { rest = rest; queue = queue; place = at.place; tail = at.tail; steps = at.steps }
 
-abbrev pub called_as : Called → List ℕ → List ℕ → List ℕ → List ℕ → theory.Called
+-- ---- one call
+-- the theory's number for what it says, and the byte of its move
+abbrev pub kind_of : Event → ℕ
+kind_of (Moved byte) = 0
+kind_of events.End = 1
+kind_of events.Dry = 2
+
+abbrev pub byte_of : Event → ℕ
+byte_of (Moved byte) = byte
+byte_of events.End = 0
+byte_of events.Dry = 0
+
+abbrev pub called_as : Stage × Event → List ℕ → List ℕ → List ℕ → List ℕ → theory.Called
 called_as r rest queue left bytes = record {
-  kind = r.kind;
-  byte = r.byte;
-  fast = fast_of rest queue r.at;
+  kind = kind_of r.1;
+  byte = byte_of r.1;
+  fast = fast_of rest queue r.0;
   left = left;
   bytes = bytes;
 }
 
 -- ---- calls on a long queue
+-- the theory's number for what stopped them
+abbrev pub stop_number : Option Stop → ℕ
+stop_number None = 0
+stop_number (Some End) = 1
+stop_number (Some Dry) = 2
+stop_number (Some Misfit) = 3
+
 -- what they leave: how many moved and how many entries were removed, what stopped them, the arrays and numbers, and the output
 pub record Outcome : Type 0 where
   pub made : ℕ
@@ -36,7 +59,7 @@ abbrev pub ran_as : Ran → List ℕ → List ℕ → List ℕ → List ℕ → 
 ran_as r rest queue left bytes out = record {
   made = r.made;
   taken = r.taken;
-  stop = r.stop;
+  stop = stop_number r.stop;
   fast = fast_of rest queue r.at;
   left = left;
   bytes = bytes;
@@ -76,7 +99,7 @@ pub record Stretched : Type 0 where
 abbrev pub stretch_as : Stretch → List ℕ → List ℕ → List ℕ → List ℕ → Stretched
 stretch_as r rest left bytes out = record {
   made = r.made;
-  stop = r.stop;
+  stop = stop_number r.stop;
   rest = rest;
   place = r.at.place;
   tail = r.at.tail;
@@ -116,7 +139,7 @@ unfoldable pub stretch_by : ℕ → ℕ → ℕ → List ℕ → List ℕ → Li
 stretch_by last c limit tops rest left bytes entries at done out =
     cond (fits_for last c limit tops rest left bytes at done out)
     (from_oldest (calls_by last c limit tops rest (filled 1056 0 entries) left bytes at done out))
-    (stretch_as (record { made = 0; entries = entries; at = at; stop = 3 }) rest left bytes out)
+    (stretch_as (record { made = 0; entries = entries; at = at; stop = Some Misfit }) rest left bytes out)
 
 -- ---- the private functions
 pub record FastWorkable (tops : List ℕ) (last bound : ℕ) (rest queue : List ℕ) (at : Stage) : Type 0 where

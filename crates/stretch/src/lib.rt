@@ -14,39 +14,47 @@ use gray::CAPACITY;
 
 // The numbers of a run: the place that the counter has come to, the place in the queue where the next entry goes, and the
 // useful steps made.
-#[derive(Clone, Copy)]
+#[derive(Clone, Copy, Debug, PartialEq, Eq)]
 pub struct Stage {
     pub place: usize,
     pub tail: usize,
     pub steps: u64,
 }
 
+// What stops calls: the end of the walk, a dry call, or arrays and numbers that are no run's.
+#[derive(Clone, Copy, Debug, PartialEq, Eq)]
+pub enum Stop {
+    End,
+    Dry,
+    Misfit,
+}
+
 // What a stretch leaves besides its arrays: the calls that moved, the queue's entries, the oldest first, the numbers then, and
-// what stopped it: nothing (0), the end of the walk (1), a dry call (2), or arrays and numbers that are no run's (3).
+// what stopped it, if anything did.
 #[derive(Clone, Copy)]
 pub struct Stretch {
     pub made: usize,
     pub entries: [u8; CAPACITY],
     pub at: Stage,
-    pub stop: u8,
+    pub stop: Option<Stop>,
 }
 
 // What its calls leave besides the arrays and the long queue: how many moved, the entries removed, the numbers then, and what
-// stopped them.
+// stopped them, if anything did.
 #[derive(Clone, Copy)]
 struct Ran {
     made: usize,
     taken: usize,
     at: Stage,
-    stop: u8,
+    stop: Option<Stop>,
 }
 
-// One call: the numbers then, whether it moved (0), ended the walk (1) or was dry (2), and the byte of a move.
-#[derive(Clone, Copy)]
-struct Called {
-    at: Stage,
-    kind: u8,
-    byte: u8,
+// What a call says: the byte of its move, the end of the walk, or that it was dry.
+#[derive(Clone, Copy, Debug, PartialEq, Eq)]
+enum Event {
+    Moved(u8),
+    End,
+    Dry,
 }
 
 // The places of a run's arrays: a byte is the index of one.
@@ -57,13 +65,6 @@ pub const CALLS: usize = 1024;
 
 // The places of its queue: each call adds one entry at most to those that it begins with.
 const QUEUE: usize = CALLS + CAPACITY;
-
-// The bound spares callers a fact about the byte that they read.
-fn wide(x: u8) -> usize
-    ensures { (result ≡ x) × (result ≤ 255) }
-{
-    x as usize
-}
 
 // One work step.
 fn work(
@@ -78,8 +79,7 @@ fn work(
     ensures { fast_of rest.new queue.new result
         ≡ fast_work tops.now last bound (fast_of rest.old queue.old at) }
 {
-    let place = at.place;
-    let tail = at.tail;
+    let Stage { place, tail, steps } = at;
     let b = rest[place];
     if b == 0 {
         if place == last {
@@ -88,8 +88,8 @@ fn work(
         rest[place] = tops[place];
         return Stage {
             place: place + 1,
-            tail: tail,
-            steps: at.steps + 1,
+            steps: steps + 1,
+            ..at
         };
     }
     if tail < bound {
@@ -98,13 +98,13 @@ fn work(
         return Stage {
             place: 1,
             tail: tail + 1,
-            steps: at.steps + 1,
+            steps: steps + 1,
         };
     }
     at
 }
 
-// The carries of a dry call, two at most, are undone.
+// The carries of a dry call, two at most, are undone: two stores in two tests, which a loop over from..to would not bound.
 fn undo(rest: &mut [u8], from: usize, to: usize)
     requires { (length rest.old ≡ 256) × (to ≤ 256) }
     ensures { rest.new ≡ backed rest.old from to }
@@ -140,8 +140,9 @@ fn advance(tops: &[u8], left: &mut [u8], bytes: &mut [u8], i: usize) -> u8
     byte
 }
 
-// A call after k removals: two work steps, then the removal of the oldest entry. That the call is dry is seen after its steps,
-// which is quicker, since it is rare.
+// A call after k removals: two work steps, then the removal of the oldest entry. The numbers then, and what it says. That the
+// call is dry is seen after its steps, which is quicker, since it is rare. (Arrays come one by one here too: as a struct of lent
+// slices each clause would name the struct, the array and the moment, and be no plainer.)
 fn call(
     last: usize,
     c: usize,
@@ -152,7 +153,7 @@ fn call(
     left: &mut [u8],
     bytes: &mut [u8],
     at: Stage,
-) -> Called
+) -> (Stage, Event)
     requires { FastCallable last c k tops.now rest.old queue.old left.old bytes.old at }
     ensures { called_as result rest.new queue.new left.new bytes.new
         ≡ fast_call tops.now last c k (fast_of rest.old queue.old at)
@@ -162,26 +163,14 @@ fn call(
     let twice = work(tops, last, k + c, rest, queue, once);
     if twice.tail == k {
         undo(rest, at.place, twice.place);
-        return Called {
-            at: at,
-            kind: 2,
-            byte: 0,
-        };
+        return (at, Event::Dry);
     }
-    let e = wide(queue[k]);
+    let e = usize::from(queue[k]);
     if e == last {
-        return Called {
-            at: twice,
-            kind: 1,
-            byte: 0,
-        };
+        return (twice, Event::End);
     }
     let byte = advance(tops, left, bytes, e);
-    Called {
-        at: twice,
-        kind: 0,
-        byte: byte,
-    }
+    (twice, Event::Moved(byte))
 }
 
 // Whether the arrays and numbers can be a run's: what keeps every index and sum of the stretch within its bounds.
@@ -215,12 +204,8 @@ fn fits(
 fn long_queue(entries: [u8; CAPACITY]) -> [u8; QUEUE]
     ensures { result ≡ filled 1056 0 entries }
 {
-    let mut queue = [0u8; QUEUE];
-    let mut i = 0;
-    while i < CAPACITY {
-        queue[i] = entries[i];
-        i += 1;
-    }
+    let mut queue = [0; QUEUE];
+    queue[..CAPACITY].copy_from_slice(&entries);
     queue
 }
 
@@ -229,12 +214,8 @@ fn window(queue: &[u8], from: usize) -> [u8; CAPACITY]
     requires { from + 32 ≤ length queue.now }
     ensures { result ≡ take 32 (drop from queue.now) }
 {
-    let mut entries = [0u8; CAPACITY];
-    let mut i = 0;
-    while i < CAPACITY {
-        entries[i] = queue[from + i];
-        i += 1;
-    }
+    let mut entries = [0; CAPACITY];
+    entries.copy_from_slice(&queue[from..from + CAPACITY]);
     entries
 }
 
@@ -258,38 +239,39 @@ fn run_calls(
         bytes.old from done out.old }
 {
     let mut at = from;
-    let mut k = 0;
-    while k < limit {
-        let called = call(last, c, k, tops, rest, queue, left, bytes, at);
-        at = called.at;
-        if called.kind == 2 {
-            return Ran {
-                made: k,
-                taken: k,
-                at: at,
-                stop: 2,
-            };
+    for k in 0..limit {
+        let (next, called) = call(last, c, k, tops, rest, queue, left, bytes, at);
+        at = next;
+        match called {
+            Event::Moved(byte) => out[done + k] = byte,
+            Event::End => {
+                return Ran {
+                    made: k,
+                    taken: k + 1,
+                    at,
+                    stop: Some(Stop::End),
+                };
+            }
+            Event::Dry => {
+                return Ran {
+                    made: k,
+                    taken: k,
+                    at,
+                    stop: Some(Stop::Dry),
+                };
+            }
         }
-        if called.kind == 1 {
-            return Ran {
-                made: k,
-                taken: k + 1,
-                at: at,
-                stop: 1,
-            };
-        }
-        out[done + k] = called.byte;
-        k += 1;
     }
     Ran {
-        made: k,
-        taken: k,
-        at: at,
-        stop: 0,
+        made: limit,
+        taken: limit,
+        at,
+        stop: None,
     }
 }
 
-// The calls of a stretch, from the queue's entries, the oldest first, to those that it leaves.
+// The calls of a stretch, from the queue's entries, the oldest first, to those that it leaves. (It takes slices one by one, and no
+// struct of arrays: it promises what it does with those that are no run's, too.)
 pub fn run(
     last: usize,
     c: usize,
@@ -310,26 +292,28 @@ pub fn run(
     if !fits(last, c, limit, tops, rest, left, bytes, from, done, out) {
         return Stretch {
             made: 0,
-            entries: entries,
+            entries,
             at: from,
-            stop: 3,
+            stop: Some(Stop::Misfit),
         };
     }
     let mut queue = long_queue(entries);
     let ran = run_calls(
         last, c, limit, tops, rest, &mut queue, left, bytes, from, done, out,
     );
-    let reached = ran.at;
-    let taken = ran.taken;
-    let stage = Stage {
-        place: reached.place,
-        tail: reached.tail - taken,
-        steps: reached.steps,
-    };
+    let Ran {
+        made,
+        taken,
+        at,
+        stop,
+    } = ran;
     Stretch {
-        made: ran.made,
+        made,
         entries: window(&queue, taken),
-        at: stage,
-        stop: ran.stop,
+        at: Stage {
+            tail: at.tail - taken,
+            ..at
+        },
+        stop,
     }
 }

@@ -1,9 +1,12 @@
 -- What private functions of this crate answer.
-use Rattle.std.specs.Prelude.{ℕ, ◌+◌, List, ◌≡◌, length}
-use Rattle.gray_theory.specs.Places.{placed}
+use Rattle.std.specs.Prelude.{ℕ, ◌+◌, List, ◌++◌, ◌≡◌, length, take}
+use Rattle.text.specs.declared.Text.{Text}
 
--- text written from place `at` up to place `end`
-pub record Put (at : ℕ) (text before after : List ℕ) (end : ℕ) : Type 0 where
-  pub stands : after ≡ placed at text before
-  pub ends : end ≡ at + length text
-  pub room : length after ≡ length before
+-- the bytes that have been put
+abbrev pub text_of : Text → List ℕ
+text_of t = take t.len t.bytes
+
+-- text put behind what there was
+pub record Put (text : List ℕ) (before after : Text) : Type 0 where
+  pub stands : text_of after ≡ text_of before ++ text
+  pub ends : after.len ≡ before.len + length text

@@ -2,196 +2,208 @@
 
 #![tactic(auto)]
 
-ghost use Rattle.std.specs.Prelude.{◌≡◌, cond, [], ◌++◌, ◌+◌, ◌≤◌, min as minOf, length, take};
+ghost use Rattle.std.specs.Prelude.{◌≡◌, cond, [], ◌∷◌, ◌++◌, ◌+◌, ◌≤◌, length, take};
 ghost use Rattle.gray_theory.specs.Answers.{Wrote};
-ghost use Rattle.gray.specs.Enums.{written_as};
+ghost use Rattle.gray.specs.Enums.{answer_as};
 ghost use Rattle.text_theory.specs.Ascii.{ascii};
 ghost use Rattle.text_theory.specs.Decimals.{decimal};
 ghost use Rattle.text_theory.specs.Lines.{setting_text, direction_text, line_text, survey_line, line_call};
 ghost use Rattle.text.specs.Stages.{Put};
 
-use gray::{Counted, DIGITS, Written};
+use gray::{DIGITS, Refusal};
 use text_theory::Line;
 
 // The most settings that are walked.
 const MOST: u64 = 4096;
 
-fn min(most: usize, n: u8) -> usize
-    ensures { result ≡ minOf n most }
-{
-    if most < n as usize {
-        return most;
+// A line as it is made, one piece behind the other: the first `len` bytes. No String, since its memory is fixed; and no Display,
+// since the clauses of `write!` don't rule out an error, as `write_line` must.
+#[derive(Clone, Copy)]
+struct Text {
+    bytes: [u8; 256],
+    len: usize,
+}
+
+impl Text {
+    fn empty() -> Text
+        ensures { result.len ≡ 0 }
+    {
+        Text {
+            bytes: [0; 256],
+            len: 0,
+        }
     }
-    n as usize
-}
 
-// Bytes into `out` from place `at` on. Gives the place behind them, as all that put text do.
-fn put(bytes: &[u8], out: &mut [u8], at: usize) -> usize
-    requires { at + length bytes.now ≤ length out.old }
-    ensures { Put at bytes.now out.old out.new result }
-{
-    let mut i = 0;
-    while i < bytes.len() {
-        out[at + i] = bytes[i];
-        i += 1;
+    fn push(&mut self, byte: u8)
+        requires { self.old.len + 1 ≤ 256 }
+        ensures { Put (byte ∷ []) self.old self.new }
+    {
+        self.bytes[self.len] = byte;
+        self.len += 1;
     }
-    at + i
-}
 
-// A number without leading zeros: the digits of its tenth part, if there are any, and then the last one.
-fn put_decimal(n: u64, out: &mut [u8], at: usize) -> usize
-    requires { at + length (decimal n) ≤ length out.old }
-    ensures { Put at (decimal n) out.old out.new result }
-{
-    if n < 10 {
-        out[at] = b'0' + n as u8;
-        return at + 1;
+    fn put(&mut self, bytes: &[u8])
+        requires { self.old.len + length bytes.now ≤ 256 }
+        ensures { Put bytes.now self.old self.new }
+    {
+        let end = self.len + bytes.len();
+        self.bytes[self.len..end].copy_from_slice(bytes);
+        self.len = end;
     }
-    let last = put_decimal(n / 10, out, at);
-    out[last] = b'0' + (n % 10) as u8;
-    last + 1
-}
 
-// A number of up to 64 bits has at most 20 digits.
-fn put_number(n: u64, out: &mut [u8], at: usize) -> usize
-    requires { at + 20 ≤ length out.old }
-    ensures put { Put at (decimal n) out.old out.new result }
-    ensures upper_bound { result ≤ at + 20 }
-{
-    put_decimal(n, out, at)
-}
-
-// One digit of a setting, with a point before it unless it is the first.
-fn put_notch(a: u8, first: bool, out: &mut [u8], at: usize) -> usize
-    requires { at + 4 ≤ length out.old }
-    ensures put { Put at (cond first [] (ascii ".") ++ decimal a) out.old out.new result }
-    ensures upper_bound { result ≤ at + 4 }
-{
-    if first {
-        return put_decimal(a as u64, out, at);
+    fn end_line(&mut self)
+        requires { self.old.len + 1 ≤ 256 }
+        ensures { Put (ascii "\n") self.old self.new }
+    {
+        self.push(b'\n');
     }
-    let behind = put(b".", out, at);
-    put_decimal(a as u64, out, behind)
-}
 
-// A setting: the first n digits of the word, the last of them first, joined by points.
-fn put_setting(word: [u8; DIGITS], n: usize, out: &mut [u8], at: usize) -> usize
-    requires { (n ≤ 48) × (at + 192 ≤ length out.old) }
-    ensures put { Put at (setting_text (take n word)) out.old out.new result }
-    ensures upper_bound { result ≤ at + 192 }
-{
-    let mut end = at;
-    let mut i = n;
-    while 0 < i {
-        i -= 1;
-        end = put_notch(word[i], i + 1 == n, out, end);
+    // A number without leading zeros: the digits of its tenth part, if there are any, and then the last one.
+    fn put_decimal(&mut self, n: u64)
+        requires { self.old.len + length (decimal n) ≤ 256 }
+        ensures { Put (decimal n) self.old self.new }
+    {
+        if n < 10 {
+            self.push(b'0' + n as u8);
+            return;
+        }
+        self.put_decimal(n / 10);
+        self.push(b'0' + (n % 10) as u8);
     }
-    end
-}
 
-fn put_direction(down: bool, out: &mut [u8], at: usize) -> usize
-    requires { at + 4 ≤ length out.old }
-    ensures put { Put at (direction_text down) out.old out.new result }
-    ensures upper_bound { result ≤ at + 4 }
-{
-    if down {
-        put(b"down", out, at)
-    } else {
-        put(b"up", out, at)
+    // A number of up to 64 bits has at most 20 digits.
+    fn put_number(&mut self, n: u64)
+        requires { self.old.len + 20 ≤ 256 }
+        ensures put { Put (decimal n) self.old self.new }
+        ensures upper_bound { self.new.len ≤ self.old.len + 20 }
+    {
+        self.put_decimal(n);
     }
-}
 
-// Text and a number behind it.
-fn put_counted(text: &[u8], n: u64, out: &mut [u8], at: usize) -> usize
-    requires { at + length text.now + 20 ≤ length out.old }
-    ensures put { Put at (text.now ++ decimal n) out.old out.new result }
-    ensures upper_bound { result ≤ at + length text.now + 20 }
-{
-    let behind = put(text, out, at);
-    put_number(n, out, behind)
-}
+    // One notch of a setting, with a point before it unless it is the first.
+    fn put_notch(&mut self, notch: u8, first: bool)
+        requires { self.old.len + 4 ≤ 256 }
+        ensures put { Put (cond first [] (ascii ".") ++ decimal notch) self.old self.new }
+        ensures upper_bound { self.new.len ≤ self.old.len + 4 }
+    {
+        if !first {
+            self.put(b".");
+        }
+        self.put_decimal(u64::from(notch));
+    }
 
-// A word and a number, as a line.
-fn put_named(name: &[u8], n: u64, out: &mut [u8]) -> usize
-    requires { (length name.now ≤ 8) × (256 ≤ length out.old) }
-    ensures put { Put 0 (name.now ++ decimal n ++ ascii "\n") out.old out.new result }
-    ensures upper_bound { result ≤ 256 }
-{
-    let numbered = put_counted(name, n, out, 0);
-    put(b"\n", out, numbered)
-}
+    // A setting: the last of its notches first, joined by points.
+    fn put_setting(&mut self, setting: &[u8])
+        requires { (length setting.now ≤ 48) × (self.old.len + 192 ≤ 256) }
+        ensures put { Put (setting_text setting.now) self.old self.new }
+        ensures upper_bound { self.new.len ≤ self.old.len + 192 }
+    {
+        let n = setting.len();
+        for i in (0..n).rev() {
+            self.put_notch(setting[i], i + 1 == n);
+        }
+    }
 
-fn put_sizes(n: u64, size: u64, out: &mut [u8]) -> usize
-    requires { 256 ≤ length out.old }
-    ensures put { Put 0 (line_text (Line.Sizes n size) []) out.old out.new result }
-    ensures upper_bound { result ≤ 256 }
-{
-    let a = put_counted(b"sluices ", n, out, 0);
-    let b = put_counted(b" settings ", size, out, a);
-    put(b"\n", out, b)
-}
+    fn put_direction(&mut self, down: bool)
+        requires { self.old.len + 4 ≤ 256 }
+        ensures put { Put (direction_text down) self.old self.new }
+        ensures upper_bound { self.new.len ≤ self.old.len + 4 }
+    {
+        if down {
+            self.put(b"down");
+        } else {
+            self.put(b"up");
+        }
+    }
 
-// A rank and its setting, with which each line of the walk begins.
-fn put_ranked(rank: u64, word: [u8; DIGITS], n: usize, out: &mut [u8]) -> usize
-    requires { (n ≤ 48) × (256 ≤ length out.old) }
-    ensures put { Put 0 (decimal rank ++ ascii " " ++ setting_text (take n word)) out.old out.new result }
-    ensures upper_bound { result ≤ 213 }
-{
-    let a = put_number(rank, out, 0);
-    let b = put(b" ", out, a);
-    put_setting(word, n, out, b)
-}
+    // A word and a number behind it.
+    #[tactic(auto, using(crate::proofs::Putting::and_then))]
+    fn put_counted(&mut self, word: &[u8], n: u64)
+        requires { self.old.len + length word.now + 20 ≤ 256 }
+        ensures put { Put (word.now ++ decimal n) self.old self.new }
+        ensures upper_bound { self.new.len ≤ self.old.len + length word.now + 20 }
+    {
+        self.put(word);
+        self.put_number(n);
+    }
 
-fn put_start(word: [u8; DIGITS], n: usize, out: &mut [u8]) -> usize
-    requires { (n ≤ 48) × (256 ≤ length out.old) }
-    ensures put { Put 0 (line_text Line.Start (take n word)) out.old out.new result }
-    ensures upper_bound { result ≤ 256 }
-{
-    let a = put_ranked(0, word, n, out);
-    put(b" start\n", out, a)
-}
+    // A word and a number, as a line.
+    #[tactic(auto, using(crate::proofs::Putting::and_then))]
+    fn put_named(&mut self, name: &[u8], n: u64)
+        requires { (length name.now ≤ 8) × (self.old.len + 30 ≤ 256) }
+        ensures put { Put (name.now ++ decimal n ++ ascii "\n") self.old self.new }
+        ensures upper_bound { self.new.len ≤ self.old.len + 30 }
+    {
+        self.put_counted(name, n);
+        self.end_line();
+    }
 
-// The move that a line names.
-fn put_move(digit: u8, down: bool, out: &mut [u8], at: usize) -> usize
-    requires { at + 30 ≤ length out.old }
-    ensures put { Put at (ascii " " ++ decimal digit ++ ascii " " ++ direction_text down ++ ascii "\n") out.old out.new result }
-    ensures upper_bound { result ≤ at + 30 }
-{
-    let a = put_counted(b" ", digit as u64, out, at);
-    let b = put(b" ", out, a);
-    let c = put_direction(down, out, b);
-    put(b"\n", out, c)
-}
+    fn put_sizes(&mut self, n: u64, size: u64)
+        requires { self.old.len + 60 ≤ 256 }
+        ensures put { Put (line_text (Line.Sizes n size) []) self.old self.new }
+        ensures upper_bound { self.new.len ≤ self.old.len + 60 }
+    {
+        self.put_counted(b"sluices ", n);
+        self.put_counted(b" settings ", size);
+        self.end_line();
+    }
 
-fn put_moved(
-    rank: u64,
-    digit: u8,
-    down: bool,
-    word: [u8; DIGITS],
-    n: usize,
-    out: &mut [u8],
-) -> usize
-    requires { (n ≤ 48) × (256 ≤ length out.old) }
-    ensures put { Put 0 (line_text (Line.Moved rank digit down) (take n word)) out.old out.new result }
-    ensures upper_bound { result ≤ 256 }
-{
-    let a = put_ranked(rank, word, n, out);
-    put_move(digit, down, out, a)
-}
+    // A rank and its setting, with which each line of the walk begins.
+    #[tactic(auto, using(crate::proofs::Putting::and_then))]
+    fn put_ranked(&mut self, rank: u64, setting: &[u8])
+        requires { (length setting.now ≤ 48) × (self.old.len + 213 ≤ 256) }
+        ensures put { Put (decimal rank ++ ascii " " ++ setting_text setting.now) self.old self.new }
+        ensures upper_bound { self.new.len ≤ self.old.len + 213 }
+    {
+        self.put_number(rank);
+        self.put(b" ");
+        self.put_setting(setting);
+    }
 
-fn put_line(line: Line, word: [u8; DIGITS], n: usize, out: &mut [u8]) -> usize
-    requires { (n ≤ 48) × (256 ≤ length out.old) }
-    ensures put { Put 0 (line_text line (take n word)) out.old out.new result }
-    ensures upper_bound { result ≤ 256 }
-{
-    match line {
-        Line::Unread => put(b"unread\n", out, 0),
-        Line::Refused(k) => put_named(b"refused ", k as u64, out),
-        Line::Long => put(b"long\n", out, 0),
-        Line::Sizes(digits, size) => put_sizes(digits, size, out),
-        Line::Start => put_start(word, n, out),
-        Line::Moved(rank, digit, down) => put_moved(rank, digit, down, word, n, out),
-        Line::End(last) => put_named(b"end ", last, out),
+    fn put_start(&mut self, setting: &[u8])
+        requires { (length setting.now ≤ 48) × (self.old.len + 220 ≤ 256) }
+        ensures put { Put (line_text Line.Start setting.now) self.old self.new }
+        ensures upper_bound { self.new.len ≤ self.old.len + 220 }
+    {
+        self.put_ranked(0, setting);
+        self.put(b" start\n");
+    }
+
+    // The move that a line names.
+    fn put_move(&mut self, digit: u8, down: bool)
+        requires { self.old.len + 30 ≤ 256 }
+        ensures put { Put (ascii " " ++ decimal digit ++ ascii " " ++ direction_text down ++ ascii "\n") self.old self.new }
+        ensures upper_bound { self.new.len ≤ self.old.len + 30 }
+    {
+        self.put_counted(b" ", u64::from(digit));
+        self.put(b" ");
+        self.put_direction(down);
+        self.end_line();
+    }
+
+    fn put_moved(&mut self, rank: u64, digit: u8, down: bool, setting: &[u8])
+        requires { (length setting.now ≤ 48) × (self.old.len + 243 ≤ 256) }
+        ensures put { Put (line_text (Line.Moved rank digit down) setting.now) self.old self.new }
+        ensures upper_bound { self.new.len ≤ self.old.len + 243 }
+    {
+        self.put_ranked(rank, setting);
+        self.put_move(digit, down);
+    }
+
+    fn put_line(&mut self, line: Line, setting: &[u8])
+        requires { (length setting.now ≤ 48) × (self.old.len + 243 ≤ 256) }
+        ensures put { Put (line_text line setting.now) self.old self.new }
+        ensures upper_bound { self.new.len ≤ self.old.len + 243 }
+    {
+        match line {
+            Line::Unread => self.put(b"unread\n"),
+            Line::Refused(k) => self.put_named(b"refused ", u64::from(k)),
+            Line::Long => self.put(b"long\n"),
+            Line::Sizes(n, size) => self.put_sizes(n, size),
+            Line::Start => self.put_start(setting),
+            Line::Moved(rank, digit, down) => self.put_moved(rank, digit, down, setting),
+            Line::End(last) => self.put_named(b"end ", last),
+        }
     }
 }
 
@@ -200,8 +212,8 @@ pub fn survey_line(radices: &[u8]) -> Line
     ensures { result ≡ survey_line radices.now }
 {
     let counted = gray::size(radices);
-    let Counted::Size(total) = counted else {
-        return Line::Refused(counted.number());
+    let Ok(total) = counted else {
+        return Line::Refused(gray::number(counted));
     };
     if MOST < total {
         return Line::Long;
@@ -210,14 +222,14 @@ pub fn survey_line(radices: &[u8]) -> Line
 }
 
 // A line, at the start of `out`. The word has digit 1 first, as an engine's state has it; of its digits the first n are shown.
-pub fn write_line(line: Line, word: [u8; DIGITS], n: u8, out: &mut [u8]) -> Written
-    ensures { Wrote (line_call line (take n word)) (written_as result) out.old out.new }
+pub fn write_line(line: Line, word: [u8; DIGITS], n: u8, out: &mut [u8]) -> Result<usize, Refusal>
+    ensures { Wrote (line_call line (take n word)) (answer_as result) out.old out.new }
 {
-    let mut text = [0u8; 256];
-    let length = put_line(line, word, min(DIGITS, n), &mut text);
-    if out.len() < length {
-        return Written::Refused(9);
+    let mut text = Text::empty();
+    text.put_line(line, &word[..usize::from(n).min(DIGITS)]);
+    if out.len() < text.len {
+        return Err(Refusal::Output);
     }
-    put(&text[..length], out, 0);
-    Written::Bytes(length)
+    out[..text.len].copy_from_slice(&text.bytes[..text.len]);
+    Ok(text.len)
 }

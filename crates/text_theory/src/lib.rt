@@ -4,7 +4,8 @@
 #![tactic(auto)]
 
 // The lines of `walk`. `Sizes` has n and N, `Moved` the rank, the digit (sluice) and whether it went down, `End` N − 1.
-#[derive(Clone, Copy)]
+// `Refused` has the number that is printed and no enum of refusals: `survey_line`, of which theorems speak, is made of numbers.
+#[derive(Clone, Copy, Debug, PartialEq, Eq)]
 pub enum Line {
     Unread,
     Refused(u8),

@@ -1,4 +1,5 @@
 -- The lines of a file one after another: what the proofs of the functions that go through it cite.
+use Rattle.std.specs.Prelude.{Some, None, Ok, Err}
 use Prim.Native.Nat.{ℕ, ◌+◌, ◌-◌, ◌%◌, ◌^◌, ◌≤◌, ◌<◌}
 use native.Mathlib.Omega.{arith}
 use native.Mathlib.Decide.{dec_lt}
@@ -6,20 +7,21 @@ use mathlib.Core.Path.{◌≡◌, refl, sym, ap, ap₂, subst, ◌∙◌}
 use mathlib.Core.Bool.{Bool, true, false, cond, ◌&&◌, ◌||◌, not, beq, and-eq-true_iff, or-false}
 use mathlib.Core.List.{List, [], ◌∷◌, map, flatten}
 use borrow.Author.Tests.{le-leb, lt-leb, lt-ltb, le-ltb}
-use lib.Dec.{eqb, leb, ltb}
+use lib.Dec.{leb, ltb}
 use lib.ListN.{length, take, drop, length-append, length-drop, drop_of_length-le}
 use lib.Seq.{drop-drop}
 use Rattle.gray_theory.specs.Bools.{impossible}
-use Rattle.tides_theory.specs.Lines.{high_letter, lines_in, notice_in, is_line, all_lines}
+use Rattle.tides_theory.specs.Lines.{lines_in, notice_in, is_line, all_lines}
 use Rattle.tides_theory.specs.Windows.{Tide, tide_of, follows, in_order, Window, window_of, windows, allows, any_allows}
 use Rattle.tides_theory.specs.Calls.{tides_in, windows_in}
 use Rattle.tides_theory.proofs.Chunks.{line_length, line_in_front, lines_make_the_file, no_line_in_front}
 use Rattle.tides_theory.proofs.Few.{minute_of_a_line}
-use Rattle.tides.specs.Stages.{day_of, Right, tide_in, letter_of, line_as, fresh_course, closes, course_then, passing}
+use Rattle.gray.specs.declared.Refusal.TheVariants.{Line, Order}
+use Rattle.tides.specs.Stages.{day_of, Right, tide_in, water, says, line_as, fresh_course, last_is, is_low, closes, course_then, passing}
 use Rattle.tides.specs.declared.line.Day.{Day}
-use Rattle.tides.specs.declared.line.Line.TheVariants.{Tide as LineTide, Unread}
+use Rattle.tides.specs.declared.line.Water.TheVariants.{High}
+use Rattle.tides.specs.declared.line.Tide.{Tide as LineTide}
 use Rattle.tides.specs.declared.course.Course.{Course}
-use Rattle.tides.specs.declared.calls.Passed.TheVariants.{Windows, Refused}
 use Rattle.tides.proofs.line.Readings.{day_right, answer}
 
 -- ---- what stands before the rest of a file: nothing, or a tide
@@ -57,20 +59,16 @@ windows_more (after a) b ts = refl
 
 -- ---- what a course keeps of it
 pub data Keeps (c : Course) : Last → Type 0 where
-  none : c.next ≡ 0 → c.last ≡ 0 → Keeps c start
-  tide : {a : Tide} → c.next ≡ a.at + 1 → c.last ≡ letter_of a.high → Keeps c (after a)
+  none : c.next ≡ 0 → c.last ≡ None → Keeps c start
+  tide : {a : Tide} → c.next ≡ a.at + 1 → c.last ≡ Some (water a.high) → Keeps c (after a)
 
-no_letter : (high : Bool) → eqb 0 (letter_of high) ≡ false
-no_letter true = refl
-no_letter false = refl
+same_water : (a b : Bool) → last_is (Some (water a)) (water b) ≡ beq a b
+same_water true true = refl
+same_water true false = refl
+same_water false true = refl
+same_water false false = refl
 
-same_letter : (a b : Bool) → eqb (letter_of a) (letter_of b) ≡ beq a b
-same_letter true true = refl
-same_letter true false = refl
-same_letter false true = refl
-same_letter false false = refl
-
-high_then_low : (a b : Bool) → (eqb (letter_of a) high_letter && eqb (letter_of b) 76) ≡ (a && not b)
+high_then_low : (a b : Bool) → (last_is (Some (water a)) High && is_low (water b)) ≡ (a && not b)
 high_then_low true true = refl
 high_then_low true false = refl
 high_then_low false true = refl
@@ -84,18 +82,18 @@ later x y =
     ]
 
 keeps_joins : (c : Course) (l : Last) (b : Tide) → Keeps c l
-    → (leb c.next b.at && not (eqb c.last (letter_of b.high))) ≡ joins l b
+    → (leb c.next b.at && not (last_is c.last (water b.high))) ≡ joins l b
 keeps_joins c start b (none n l) =
-    ap₂ (λ x y. leb x b.at && not (eqb y (letter_of b.high))) n l
-    ∙ ap₂ (λ x y. x && not y) (le-leb 0 b.at (omega arith)) (no_letter b.high)
+    ap₂ (λ x y. leb x b.at && not (last_is y (water b.high))) n l
+    ∙ ap (λ x. x && true) (le-leb 0 b.at (omega arith))
 keeps_joins c (after a) b (tide n l) =
-    ap₂ (λ x y. leb x b.at && not (eqb y (letter_of b.high))) n l
-    ∙ ap₂ (λ x y. x && not y) (later a.at b.at) (same_letter a.high b.high)
+    ap₂ (λ x y. leb x b.at && not (last_is y (water b.high))) n l
+    ∙ ap₂ (λ x y. x && not y) (later a.at b.at) (same_water a.high b.high)
 
-keeps_ends : (c : Course) (l : Last) (b : Tide) → Keeps c l → closes c (letter_of b.high) ≡ ends l b
-keeps_ends c start b (none n l) = ap (λ x. eqb x high_letter && eqb (letter_of b.high) 76) l
+keeps_ends : (c : Course) (l : Last) (b : Tide) → Keeps c l → closes c (water b.high) ≡ ends l b
+keeps_ends c start b (none n l) = ap (λ x. last_is x High && is_low (water b.high)) l
 keeps_ends c (after a) b (tide n l) =
-    ap (λ x. eqb x high_letter && eqb (letter_of b.high) 76) l ∙ high_then_low a.high b.high
+    ap (λ x. last_is x High && is_low (water b.high)) l ∙ high_then_low a.high b.high
 
 -- the window that a course has in hand, where it ends
 keeps_window : (c : Course) (l : Last) (b : Tide) (s : ℕ) → Keeps c l → ends l b ≡ true
@@ -105,6 +103,10 @@ keeps_window c (after a) b s (tide n l) e =
     let same : c.next + 59 ≡ a.at + 60 = omega arith in ap (λ x. allows (record { from = x; to = b.at }) s) same
 
 -- ---- one tide more
+-- as it is read from a line of a day
+abbrev read_as : Tide → Day → LineTide
+read_as b day = record { minute = b.at; water = water b.high; day = day }
+
 and_regroups : (o l n r : Bool) → (o && (l && n && r)) ≡ (o && l && n && r)
 and_regroups true l n r = refl
 and_regroups false l n r = refl
@@ -121,15 +123,15 @@ count : (t : Bool) (n : ℕ) (ws : List Window) (v : Window)
 count true n ws v = omega arith
 count false n ws v = refl
 
-module _ (c : Course) (l : Last) (k : Keeps c l) (b : Tide) (ts : List Tide) (minute : ℕ) where
+module _ (c : Course) (l : Last) (k : Keeps c l) (b : Tide) (day : Day) (ts : List Tide) (minute : ℕ) where
   abbrev next : Course
-  next = course_then c b.at (letter_of b.high) minute
+  next = course_then c (read_as b day) minute
 
   order_then : (c.ordered && in_order (behind l (b ∷ ts))) ≡ (next.ordered && in_order (b ∷ ts))
   unfolding course_then
   order_then =
       ap (λ x. c.ordered && x) (order_more l b ts ∙ ap (λ x. x && in_order (b ∷ ts)) (sym (keeps_joins c l b k)))
-      ∙ and_regroups c.ordered (leb c.next b.at) (not (eqb c.last (letter_of b.high))) (in_order (b ∷ ts))
+      ∙ and_regroups c.ordered (leb c.next b.at) (not (last_is c.last (water b.high))) (in_order (b ∷ ts))
 
   count_then : c.windows + length (windows (behind l (b ∷ ts))) ≡ next.windows + length (windows (b ∷ ts))
   unfolding course_then
@@ -146,47 +148,21 @@ module _ (c : Course) (l : Last) (k : Keeps c l) (b : Tide) (ts : List Tide) (mi
       ∙ any (ends l b) c.allowed w (windows (b ∷ ts)) (window_to l b) minute (keeps_window c l b minute k)
       ∙ ap (λ x. cond x (c.allowed || w) c.allowed || any_allows (windows (b ∷ ts)) minute) (sym (keeps_ends c l b k))
 
--- the two ways that the code makes the next course
-pub closed : (c : Course) (moment letter minute : ℕ) (w : Bool) → closes c letter ≡ true
-    → w ≡ allows (record { from = c.next + 59; to = moment }) minute
-    → record {
-      next = moment + 1;
-      last = letter;
-      ordered = c.ordered && leb c.next moment && not (eqb c.last letter);
-      windows = c.windows + 1;
-      allowed = c.allowed || w;
-    }
-    ≡ course_then c moment letter minute
+kept : (c : Course) (b : Tide) (day : Day) (minute : ℕ) → Keeps (course_then c (read_as b day) minute) (after b)
 unfolding course_then
-closed c moment letter minute w e is = rw (e, is) refl
+kept c b day minute = tide refl refl
 
-pub not_closed : (c : Course) (moment letter minute : ℕ) → closes c letter ≡ false
-    → record {
-      next = moment + 1;
-      last = letter;
-      ordered = c.ordered && leb c.next moment && not (eqb c.last letter);
-      windows = c.windows;
-      allowed = c.allowed;
-    }
-    ≡ course_then c moment letter minute
+next_small : (c : Course) (t : LineTide) (minute : ℕ) → t.minute < 2 ^ 32 → (course_then c t minute).next ≤ 2 ^ 32
 unfolding course_then
-not_closed c moment letter minute e = rw e refl
-
-kept : (c : Course) (b : Tide) (minute : ℕ) → Keeps (course_then c b.at (letter_of b.high) minute) (after b)
-unfolding course_then
-kept c b minute = tide refl refl
-
-next_small : (c : Course) (moment letter minute : ℕ) → moment < 2 ^ 32 → (course_then c moment letter minute).next ≤ 2 ^ 32
-unfolding course_then
-next_small c moment letter minute h = omega arith
+next_small c t minute h = omega arith
 
 at_most : (t : Bool) (n : ℕ) → cond t (n + 1) n ≤ n + 1
 at_most true n = omega arith
 at_most false n = omega arith
 
-windows_at_most : (c : Course) (moment letter minute : ℕ) → (course_then c moment letter minute).windows ≤ c.windows + 1
+windows_at_most : (c : Course) (t : LineTide) (minute : ℕ) → (course_then c t minute).windows ≤ c.windows + 1
 unfolding course_then
-windows_at_most c moment letter minute = at_most (closes c letter) c.windows
+windows_at_most c t minute = at_most (closes c t.water) c.windows
 
 -- ---- a course behind the first `at` bytes of a file
 pub record Through (file : List ℕ) (minute at : ℕ) (c : Course) : Type 0 where
@@ -234,81 +210,82 @@ front file at e =
       tides = ap (λ ls. map tide_of (map notice_in ls)) split;
     }
 
-pub again : (file : List ℕ) (minute at : ℕ) (c d : Course) (moment letter : ℕ)
-    → Through file minute at c
-    → at < length file
-    → is_line (take 19 (drop at file)) ≡ true
-    → moment ≡ (tide_in (take 19 (drop at file))).at
-    → letter ≡ letter_of (tide_in (take 19 (drop at file))).high
-    → moment < 2 ^ 32
-    → d ≡ course_then c moment letter minute
-    → Through file minute (at + 19) d
-again file minute at c d moment letter t here e m l bound f =
-    let b = tide_in (take 19 (drop at file)) in
-    let ts = tides_in (drop (at + 19) file) in
-    let n = course_then c b.at (letter_of b.high) minute in
-    let same : d ≡ n = f ∙ ap₂ (λ x y. course_then c x y minute) m l in
-    let z = front file at e in
-    let few = t.few in
-    let inside = t.inside in
-    let whole = t.whole in
-    let more = windows_at_most c b.at (letter_of b.high) minute in
-    subst (λ (x : Course). Through file minute (at + 19) x) (sym same)
-    (record {
-      before = after b;
-      keeps = kept c b minute;
-      small = next_small c b.at (letter_of b.high) minute (omega arith);
-      few = omega arith;
-      inside = omega arith;
-      whole = omega arith;
-      reads = t.reads ∙ z.lines;
-      orders = t.orders ∙ ap (λ x. c.ordered && in_order (behind t.before x)) z.tides ∙ order_then c t.before t.keeps b ts minute;
-      counts =
-          t.counts ∙ ap (λ x. c.windows + length (windows (behind t.before x))) z.tides ∙ count_then c t.before t.keeps b ts minute;
-      allowing =
-          t.allowing
-          ∙ ap (λ x. c.allowed || any_allows (windows (behind t.before x)) minute) z.tides
-          ∙ any_then c t.before t.keeps b ts minute;
-    })
-
--- ---- what a line was read as
-pub record Said (line : List ℕ) (moment letter : ℕ) (day : Day) : Type 0 where
+-- what a line was read as
+pub record Said (line : List ℕ) (t : LineTide) : Type 0 where
   pub is : is_line line ≡ true
-  pub moment_is : moment ≡ (tide_in line).at
-  pub letter_is : letter ≡ letter_of (tide_in line).high
-  pub right : Right day
-  pub bound : moment < 52596000
+  pub tide_is : t ≡ says line
+  pub right : Right t.day
+  pub bound : t.minute < 52596000
 
-pub said : (line : List ℕ) (moment letter : ℕ) (day : Day) → line_as line ≡ LineTide moment letter day
-    → Said line moment letter day
+pub said : (line : List ℕ) (t : LineTide) → line_as line ≡ Some t → Said line t
 unfolding line_as
-said line moment letter day e = by (is_line line) refl e
+said line t e = by (is_line line) refl e
   where
-    by : (t : Bool) → is_line line ≡ t → answer line t ≡ LineTide moment letter day → Said line moment letter day
+    by : (b : Bool) → is_line line ≡ b → answer line b ≡ Some t → Said line t
     by true is f =
-        let m : moment ≡ (tide_in line).at = cc in
-        let d : day_of line ≡ day = cc in
+        let same : says line ≡ t = cc in
+        let days : day_of line ≡ t.day = ap (λ s. s.day) same in
+        let minutes : (tide_in line).at ≡ t.minute = ap (λ s. s.minute) same in
         let century = minute_of_a_line line is in
-        record { is = is; moment_is = m; letter_is = cc; right = subst Right d (day_right line is); bound = omega arith }
+        record { is = is; tide_is = sym same; right = subst Right days (day_right line is); bound = omega arith }
     by false is f = impossible (cc)
 
-pub unsaid : (line : List ℕ) → line_as line ≡ Unread → is_line line ≡ false
+pub unsaid : (line : List ℕ) → line_as line ≡ None → is_line line ≡ false
 unfolding line_as
 unsaid line e = by (is_line line) e
   where
-    by : (t : Bool) → answer line t ≡ Unread → t ≡ false
+    by : (t : Bool) → answer line t ≡ None → t ≡ false
     by true f = impossible (cc)
     by false f = refl
 
+pub again : (file : List ℕ) (minute at after_it : ℕ) (c d : Course) (line : List ℕ) (said_tide : LineTide)
+    → Through file minute at c
+    → line ≡ take 19 (drop at file)
+    → at < length file
+    → after_it ≡ at + 19
+    → Said line said_tide
+    → d ≡ course_then c said_tide minute
+    → Through file minute after_it d
+again file minute at after_it c d line said_tide t here more place read f =
+    let b = tide_in line in
+    let ts = tides_in (drop (at + 19) file) in
+    let day = day_of line in
+    let n = course_then c (read_as b day) minute in
+    let same : d ≡ n = f ∙ ap (λ x. course_then c x minute) read.tide_is in
+    let is : is_line (take 19 (drop at file)) ≡ true = ap is_line (sym here) ∙ read.is in
+    let tides : tides_in (drop at file) ≡ b ∷ ts = (front file at is).tides ∙ ap (λ l. tide_in l ∷ ts) (sym here) in
+    let few = t.few in
+    let inside = t.inside in
+    let whole = t.whole in
+    let fewer = windows_at_most c (read_as b day) minute in
+    let century = minute_of_a_line line read.is in
+    rw (place, same)
+    (record {
+      before = after b;
+      keeps = kept c b day minute;
+      small = next_small c (read_as b day) minute (omega arith);
+      few = omega arith;
+      inside = omega arith;
+      whole = omega arith;
+      reads = t.reads ∙ (front file at is).lines;
+      orders = t.orders ∙ ap (λ x. c.ordered && in_order (behind t.before x)) tides ∙ order_then c t.before t.keeps b day ts minute;
+      counts =
+          t.counts ∙ ap (λ x. c.windows + length (windows (behind t.before x))) tides ∙ count_then c t.before t.keeps b day ts minute;
+      allowing =
+          t.allowing
+          ∙ ap (λ x. c.allowed || any_allows (windows (behind t.before x)) minute) tides
+          ∙ any_then c t.before t.keeps b day ts minute;
+    })
+
 -- ---- what the whole file comes to
-pub unread : (file : List ℕ) (minute : ℕ) → all_lines (lines_in file) ≡ false → Refused 12 ≡ passing file minute
+pub unread : (file : List ℕ) (minute : ℕ) → all_lines (lines_in file) ≡ false → Err Line ≡ passing file minute
 unfolding passing
 unread file minute e = rw e refl
 
 -- bytes that are no line, where one should begin
 pub unread_at : (file : List ℕ) (minute at : ℕ) (c : Course) → Through file minute at c → at < length file
     → is_line (take 19 (drop at file)) ≡ false
-    → Refused 12 ≡ passing file minute
+    → Err Line ≡ passing file minute
 unread_at file minute at c t here e =
     unread file minute
     (t.reads ∙ no_line_in_front (drop at file) (omega (arith, length-drop at file)) e)
@@ -323,10 +300,10 @@ lines_long (line ∷ others) e =
     let long = line_length line is in
     omega (arith, length-append line (flatten others))
 
-pub no_lines : (file : List ℕ) (minute : ℕ) → (length file % 19 ≡ 0 → ⊥) → Refused 12 ≡ passing file minute
+pub no_lines : (file : List ℕ) (minute : ℕ) → (length file % 19 ≡ 0 → ⊥) → Err Line ≡ passing file minute
 no_lines file minute odd = by (all_lines (lines_in file)) refl
   where
-    by : (t : Bool) → all_lines (lines_in file) ≡ t → Refused 12 ≡ passing file minute
+    by : (t : Bool) → all_lines (lines_in file) ≡ t → Err Line ≡ passing file minute
     by true e =
         let long = lines_long (lines_in file) e in
         let all = ap length (lines_make_the_file file) in
@@ -348,13 +325,13 @@ module _ (file : List ℕ) (minute at : ℕ) (c : Course) (t : Through file minu
   one_or-none start = (refl, refl)
   one_or-none (after a) = (refl, refl)
 
-  pub disorder : c.ordered ≡ false → Refused 13 ≡ passing file minute
+  pub disorder : c.ordered ≡ false → Err Order ≡ passing file minute
   unfolding passing
   disorder e =
       let order : in_order (tides_in file) ≡ false = t.orders ∙ ap (λ x. x && in_order (behind t.before (tides_in (drop at file)))) e in
       rw (all_read, order) refl
 
-  pub passed : c.ordered ≡ true → Windows c.windows c.allowed ≡ passing file minute
+  pub passed : c.ordered ≡ true → Ok (record { windows = c.windows; allowed = c.allowed }) ≡ passing file minute
   unfolding passing any_allows
   passed e =
       let (ordered, no_window_lem) = one_or-none t.before in
@@ -368,4 +345,4 @@ module _ (file : List ℕ) (minute at : ℕ) (c : Course) (t : Through file minu
       ∙ ap (λ ws. c.allowed || any_allows ws minute) no_window_lem
       ∙ or-false c.allowed in
       let same : length (windows_in file) ≡ c.windows = omega arith in
-      rw (all_read, order) (ap₂ Windows (sym same) (sym any))
+      rw (all_read, order) (ap₂ (λ n b. Ok (record { windows = n; allowed = b })) (sym same) (sym any))

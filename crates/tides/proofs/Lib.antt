@@ -1,3 +1,4 @@
+pub mod Cuts
 pub mod Courses
 pub mod Writing
 pub mod Answered

@@ -1,14 +1,14 @@
 -- The lines of an accepted file in pairs, and the counts written one after another: what the proof of `put_counts` cites.
-use Prim.Native.Nat.{ℕ, suc, ◌+◌, ◌*◌, ◌≤◌, ◌<◌}
+use Prim.Native.Nat.{ℕ, suc, ◌+◌, ◌-◌, ◌*◌, ◌/◌, ◌≤◌, ◌<◌}
+use Rattle.std.specs.Simd.{first_chunks}
 use native.Mathlib.Numerals.{add-one}
 use native.Mathlib.Omega.{arith}
 use mathlib.Core.Path.{◌≡◌, refl, sym, ap, ap₂, subst, ◌∙◌}
 use mathlib.Core.Bool.{Bool, true, false, cond, ◌&&◌, not, beq, and-eq-true_iff}
 use mathlib.Core.List.{List, [], ◌∷◌, ◌++◌, map}
-use borrow.Author.Tests.{le-ltb, lt-ltb}
 use lib.Dec.{ltb, eqb}
 use lib.ListN.{length, get_or, take, drop, set, length-map, length-take, length-drop, get_or-map}
-use lib.Seq.{drop-cons, drop-drop, set_at, take-suc, length-take-le, append_snoc, get_or-take}
+use lib.Seq.{drop-cons, drop-drop, take_all, set_at, take-suc, length-take-le, append_snoc}
 use Rattle.gray_theory.specs.Bools.{impossible}
 use Rattle.tides_theory.specs.Lines.{low_letter, lines_in, notice_in, is_line, all_lines}
 use Rattle.tides_theory.specs.Windows.{Tide, tide_of, follows, in_order, Window, window_of, windows, no_window, moves_that_fit}
@@ -113,7 +113,6 @@ two a b ts o high =
 pub record Pair (l : List ℕ) : Type 0 where
   pub high : is_line (take 19 l) ≡ true
   pub low : is_line (take 19 (drop 19 l)) ≡ true
-  pub long : 38 ≤ length l
   pub split : windows (tides_in l) ≡ window_of (tide_in (take 19 l)) (tide_in (take 19 (drop 19 l))) ∷ windows (tides_in (drop 38 l))
   pub others : Ready (drop 38 l)
 
@@ -125,7 +124,7 @@ one_tide : (a : Tide) (l : List ℕ) → l ≡ [] → length (windows (a ∷ tid
 unfolding windows lines_in
 one_tide a l e = ap (λ x. length (windows (a ∷ tides_in x))) e
 
-pub pair : (l : List ℕ) → Ready l → 0 < length (windows (tides_in l)) → Pair l
+pub pair : (l : List ℕ) → Ready l → 38 ≤ length l → Pair l
 pair l r some = by_first (lines l r.read)
   where
     make : First l → First (drop 19 l) → Pair l
@@ -136,12 +135,9 @@ pair l r some = by_first (lines l r.read)
         let all : tides_in l ≡ a ∷ b ∷ tides_in (drop 38 l) =
         f.tides ∙ ap (λ ts. a ∷ ts) (g.tides ∙ ap (λ x. b ∷ tides_in x) rest) in
         let t = two a b (tides_in (drop 38 l)) (ap in_order (sym all) ∙ r.ordered) (ap begins_high (sym all) ∙ r.begins) in
-        let short = f.long in
-        let more = g.long in
         record {
           high = f.is;
           low = g.is;
-          long = omega (arith, length-drop 19 l);
           split = ap windows all ∙ t.split;
           others = record {
             read = ap (λ x. all_lines (lines_in x)) (sym rest) ∙ g.others;
@@ -152,18 +148,28 @@ pair l r some = by_first (lines l r.read)
 
     by_second : First l → Lines (drop 19 l) → Pair l
     by_second f (one g) = make f g
-    by_second f (none e) =
-        let z = ap (λ ts. length (windows ts)) f.tides ∙ one_tide (tide_in (take 19 l)) (drop 19 l) e in absurd (omega arith)
+    by_second f (none e) = let z = ap length e in absurd (omega (arith, length-drop 19 l))
 
     by_first : Lines l → Pair l
     by_first (one f) = by_second f (lines (drop 19 l) f.others)
-    by_first (none e) = let z = no_window_lem l e in absurd (omega arith)
+    by_first (none e) = let z = ap length e in absurd (omega arith)
+
+-- and none is left where fewer than two lines are
+pub no_pair : (l : List ℕ) → Ready l → length l < 38 → length (windows (tides_in l)) ≡ 0
+no_pair l r few = by_first (lines l r.read)
+  where
+    by_second : First l → Lines (drop 19 l) → length (windows (tides_in l)) ≡ 0
+    by_second f (one g) = let long = g.long in absurd (omega (arith, length-drop 19 l))
+    by_second f (none e) = ap (λ ts. length (windows ts)) f.tides ∙ one_tide (tide_in (take 19 l)) (drop 19 l) e
+
+    by_first : Lines l → length (windows (tides_in l)) ≡ 0
+    by_first (one f) = by_second f (lines (drop 19 l) f.others)
+    by_first (none e) = no_window_lem l e
 
 -- ---- the counts of the first i windows are written, and `at` is where the next window's high water stands
 pub record Put (file before out : List ℕ) (at i : ℕ) : Type 0 where
   pub ready : Ready (drop at file)
   pub inside : at ≤ length file
-  pub pace : 38 * i ≤ at
   pub few : i ≤ length (windows_in file)
   pub left : windows (tides_in (drop at file)) ≡ drop i (windows_in file)
   pub written : out ≡ take i (map moves_that_fit (windows_in file)) ++ drop i before
@@ -182,13 +188,22 @@ stored cs before i count h room e =
     ∙ sym (append_snoc (take i cs) (get_or cs i 0) (drop (suc i) before))
     ∙ ap (λ t. t ++ drop (suc i) before) (sym (take-suc cs i 0 h))
 
+-- the lines of a file, and the place of the first that can open a window
+abbrev pub cut : List ℕ → List (List ℕ)
+cut file = first_chunks 19 (length file / 19) file
+
+abbrev pub start : List ℕ → ℕ
+start file = 19 * first_high (cut file)
+
+pub starts_at : (file : List ℕ) (f : ℕ) (lines : List (List ℕ)) → f ≡ first_high lines → lines ≡ cut file → 19 * f ≡ start file
+starts_at file f lines e same = ap (λ n. 19 * n) (e ∙ ap first_high same)
+
 -- where the first window may begin
 starts : (file before : List ℕ) → Accepted file → First file → (high : Bool) → (tide_in (take 19 file)).high ≡ high
-    → Put file before before (cond (eqb (letter_of high) low_letter) 19 0) 0
+    → Put file before before (19 * cond (eqb (letter_of high) low_letter) 1 0) 0
 starts file before a f true h = record {
   ready = record { read = a.read; ordered = a.ordered; begins = ap begins_high f.tides ∙ h };
   inside = omega arith;
-  pace = omega arith;
   few = omega arith;
   left = refl;
   written = refl;
@@ -202,55 +217,49 @@ starts file before a f false h =
         begins = high-behind_low (tide_in (take 19 file)) (tides_in (drop 19 file)) h ordered;
       };
       inside = f.long;
-      pace = omega arith;
       few = omega arith;
       left = sym (ap windows f.tides ∙ low_opens_none (tide_in (take 19 file)) (tides_in (drop 19 file)) h);
       written = refl;
     }
 
-pub put-none : (file before : List ℕ) (at : ℕ) → Accepted file → at ≡ first_high file → Put file before before at 0
+pub put-none : (file before : List ℕ) → Accepted file → Put file before before (start file) 0
 unfolding first_high
-put-none file before at a e = by (lines file a.read)
+put-none file before a = by (lines file a.read)
   where
     empty : (file before : List ℕ) → file ≡ [] → Accepted file → Put file before before 0 0
     empty file before z a = record {
       ready = record { read = a.read; ordered = a.ordered; begins = ap (λ x. begins_high (tides_in x)) z ∙ none_begins };
       inside = omega arith;
-      pace = omega arith;
       few = omega arith;
       left = refl;
       written = refl;
     }
 
-    by : Lines file → Put file before before at 0
+    by : Lines file → Put file before before (start file) 0
     by (none z) =
-        let short : length file < 19 = rw z (omega arith) in
-        let here : at ≡ 0 = e ∙ ap (λ t. cond t 0 (cond (eqb (get_or file 17 0) low_letter) 19 0)) (lt-ltb (length file) 19 short) in
-        subst (λ (n : ℕ). Put file before before n 0) (sym here) (empty file before z a)
+        let here : start file ≡ 0 = ap start z in
+        rw here (empty file before z a)
     by (one f) =
         let long = f.long in
         let line = take 19 file in
-        let letter : get_or file 17 0 ≡ letter_of (notice_in line).high = sym (get_or-take 19 file 17 0 (omega arith)) ∙ sym (line_letter line f.is) in
-        let here : at ≡ cond (eqb (letter_of (notice_in line).high) low_letter) 19 0 =
-        e
-        ∙ ap (λ t. cond t 0 (cond (eqb (get_or file 17 0) low_letter) 19 0)) (le-ltb (length file) 19 long)
-        ∙ ap (λ x. cond (eqb x low_letter) 19 0) letter in
-        subst (λ (n : ℕ). Put file before before n 0) (sym here) (starts file before a f (notice_in line).high refl)
+        let n = length file / 19 - 1 in
+        let some : length file / 19 ≡ suc n = omega arith in
+        let letter : get_or line 17 0 ≡ letter_of (notice_in line).high = sym (line_letter line f.is) in
+        let here : start file ≡ 19 * cond (eqb (letter_of (notice_in line).high) low_letter) 1 0 =
+        ap (λ k. 19 * first_high (first_chunks 19 k file)) some
+        ∙ ap (λ x. 19 * cond (eqb x low_letter) 1 0) letter in
+        rw here (starts file before a f (notice_in line).high refl)
 
 -- a window is left: its two lines
 pub record Here (file : List ℕ) (at : ℕ) : Type 0 where
-  pub room : at + 38 ≤ length file
   pub high_line : is_line (take 19 (drop at file)) ≡ true
   pub low_line : is_line (take 19 (drop (at + 19) file)) ≡ true
   pub high_bound : (tide_in (take 19 (drop at file))).at < 52596000
   pub low_bound : (tide_in (take 19 (drop (at + 19) file))).at < 52596000
 
-module _ (file before out : List ℕ) (at i : ℕ) (p : Put file before out at i) (more : i < length (windows_in file)) where
-  left_some : 0 < length (windows (tides_in (drop at file)))
-  left_some = rw p.left (omega (arith, length-drop i (windows_in file)))
-
+module _ (file before out : List ℕ) (at i : ℕ) (p : Put file before out at i) (more : at + 38 ≤ length file) where
   both : Pair (drop at file)
-  both = pair (drop at file) p.ready left_some
+  both = pair (drop at file) p.ready (omega (arith, length-drop at file))
 
   second : drop 19 (drop at file) ≡ drop (at + 19) file
   second = drop-drop 19 at file
@@ -258,9 +267,7 @@ module _ (file before out : List ℕ) (at i : ℕ) (p : Put file before out at i
   pub here : Here file at
   here =
       let low : is_line (take 19 (drop (at + 19) file)) ≡ true = ap (λ l. is_line (take 19 l)) (sym second) ∙ both.low in
-      let long = both.long in
       record {
-        room = omega (arith, length-drop at file);
         high_line = both.high;
         low_line = low;
         high_bound = minute_of_a_line (take 19 (drop at file)) both.high;
@@ -277,23 +284,41 @@ module _ (file before out : List ℕ) (at i : ℕ) (p : Put file before out at i
       ∙ sym both.split
       ∙ p.left
 
-  pub put_more : (count : ℕ) → i < length before → count ≡ moves_that_fit next → Put file before (set out i count) (at + 38) (i + 1)
-  put_more count room e =
+  pub more_windows : i < length (windows_in file)
+  more_windows = let z = ap length windows-left in omega (arith, length-drop i (windows_in file))
+
+  pub put_more : (then count : ℕ) → then ≡ at + 38 → i < length before → count ≡ moves_that_fit next
+      → Put file before (set out i count) then (i + 1)
+  put_more then count place room e =
       let ws = windows_in file in
       let cs : List ℕ = map moves_that_fit ws in
       let long : length cs ≡ length ws = length-map ws moves_that_fit in
       let split : next ∷ windows (tides_in (drop (at + 38) file)) ≡ get_or ws i no_window ∷ drop (suc i) ws =
-      windows-left ∙ drop-cons ws i no_window more in
+      windows-left ∙ drop-cons ws i no_window more_windows in
       let this : next ≡ get_or ws i no_window = cc in
       let rest : windows (tides_in (drop (at + 38) file)) ≡ drop (suc i) ws = cc in
       let value : count ≡ get_or cs i 0 = e ∙ ap moves_that_fit this ∙ sym (get_or-map moves_that_fit ws i no_window) in
-      let few = here.room in
-      let pace = p.pace in
-      record {
+      let some = more_windows in
+      rw place
+      (record {
         ready = subst (λ (l : List ℕ). Ready l) (drop-drop 38 at file) both.others;
         inside = omega arith;
-        pace = omega arith;
         few = omega arith;
         left = rw (add-one i) rest;
         written = rw (add-one i) (ap (λ o. set o i count) p.written ∙ stored cs before i count (omega arith) room value);
-      }
+      })
+
+-- all are written
+pub put_all : (file before out : List ℕ) (at i : ℕ) → Put file before out at i → length file < at + 38
+    → out ≡ map moves_that_fit (windows_in file) ++ drop (length (windows_in file)) before
+put_all file before out at i p end =
+    let ws = windows_in file in
+    let cs : List ℕ = map moves_that_fit ws in
+    let inside = p.inside in
+    let none = no_pair (drop at file) p.ready (omega (arith, length-drop at file)) in
+    let left = ap length p.left in
+    let few = p.few in
+    let all : i ≡ length ws = omega (arith, length-drop i ws) in
+    p.written
+    ∙ ap (λ k. take k cs ++ drop k before) all
+    ∙ ap (λ l. l ++ drop (length ws) before) (take_all (length ws) cs (omega (arith, length-map ws moves_that_fit)))

@@ -1,6 +1,4 @@
--- What the answers of the calls on a harbour file mean, and what their private functions answer.
+-- What the private functions on a harbour file answer.
 
 -- definitions
-pub mod Enums
--- what private functions answer
 pub mod Stages

@@ -1,30 +1,22 @@
 -- What the private functions of this crate answer.
-use Rattle.std.specs.Prelude.{ℕ, ◌+◌, ◌-◌, ◌*◌, ◌/◌, ◌%◌, ◌^◌, ◌≤◌, ◌<◌, ◌≡◌, Bool, true, false, cond, ◌&&◌, ◌||◌, not, List, [], ◌∷◌, eqb, leb, ltb, length, get_or}
+use Rattle.std.specs.Prelude.{ℕ, ◌+◌, ◌-◌, ◌*◌, ◌/◌, ◌%◌, ◌^◌, ◌≤◌, ◌<◌, ◌≡◌, Bool, true, false, cond, ◌&&◌, ◌||◌, not, List, [], ◌∷◌, eqb, leb, length, get_or, Option, Some, None, Result, Ok, Err}
 use Rattle.text_theory.specs.Ascii.{ascii}
 use Rattle.text_theory.specs.Decimals.{is_digit}
 use Rattle.tides_theory.specs.Calendar.{Date, day_number}
 use Rattle.tides_theory.specs.Lines.{high_letter, low_letter, notice_in, is_line}
 use Rattle.tides_theory.specs.Windows.{Tide, tide_of, allows, any_allows}
 use Rattle.tides_theory.specs.Calls.{windows_in, unreadable, disordered}
+use Rattle.gray.specs.declared.Refusal.{Refusal}
+use Rattle.gray.specs.declared.Refusal.TheVariants.{Line, Order}
 use Rattle.tides.specs.declared.line.Fields.{Fields}
 use Rattle.tides.specs.declared.line.Day.{Day}
-use Rattle.tides.specs.declared.line.Dated.{Dated}
-use Rattle.tides.specs.declared.line.Dated.TheVariants.{On, Unread as NoDate}
-use Rattle.tides.specs.declared.line.Line.{Line}
-use Rattle.tides.specs.declared.line.Line.TheVariants.{Tide as LineTide, Unread}
+use Rattle.tides.specs.declared.line.Water.{Water}
+use Rattle.tides.specs.declared.line.Water.TheVariants.{High, Low}
+use Rattle.tides.specs.declared.line.Tide.{Tide as LineTide}
 use Rattle.tides.specs.declared.course.Course.{Course}
 use Rattle.tides.specs.declared.calls.Passed.{Passed}
-use Rattle.tides.specs.declared.calls.Passed.TheVariants.{Windows, Refused}
 
 -- ---- one line
--- the 19 bytes from a place on
-abbrev pub line_bytes : List ℕ → ℕ → List ℕ
-line_bytes file at =
-    get_or file at 0 ∷ get_or file (at + 1) 0 ∷ get_or file (at + 2) 0 ∷ get_or file (at + 3) 0 ∷ get_or file (at + 4) 0
-    ∷ get_or file (at + 5) 0 ∷ get_or file (at + 6) 0 ∷ get_or file (at + 7) 0 ∷ get_or file (at + 8) 0 ∷ get_or file (at + 9) 0
-    ∷ get_or file (at + 10) 0 ∷ get_or file (at + 11) 0 ∷ get_or file (at + 12) 0 ∷ get_or file (at + 13) 0 ∷ get_or file (at + 14) 0
-    ∷ get_or file (at + 15) 0 ∷ get_or file (at + 16) 0 ∷ get_or file (at + 17) 0 ∷ get_or file (at + 18) 0 ∷ []
-
 -- the fixed bytes of its date, the year's first two digits among them, and those behind it
 abbrev pub date_marks : List ℕ → Bool
 date_marks line =
@@ -42,6 +34,13 @@ time_ones line = is_digit (get_or line 12 0) && is_digit (get_or line 15 0)
 
 abbrev pub is_letter : ℕ → Bool
 is_letter b = eqb b high_letter || eqb b low_letter
+
+-- what its letter says
+abbrev pub water : Bool → Water
+water high = cond high High Low
+
+unfoldable pub water_of : ℕ → Option Water
+water_of b = cond (is_letter b) (Some (water (eqb b high_letter))) None
 
 -- two digits as a number, with 528 added
 abbrev pub pair_of : ℕ → ℕ → ℕ
@@ -105,8 +104,8 @@ dated line = date_marks line && date_ones line && date_ranged (fields_of line)
 abbrev pub day_of : List ℕ → Day
 day_of line = record { head = word_of line 0; tail = word_of line 3; start = start_in (fields_of line) }
 
-unfoldable pub day_as : List ℕ → Dated
-day_as line = cond (dated line) (On (day_of line)) NoDate
+unfoldable pub day_as : List ℕ → Option Day
+day_as line = cond (dated line) (Some (day_of line)) None
 
 -- the day of some line whose date is read
 pub record Right (day : Day) : Type 0 where
@@ -114,9 +113,9 @@ pub record Right (day : Day) : Type 0 where
   pub read : dated line ≡ true
   pub is : day ≡ day_of line
 
--- the numbers of a day, at a place of a file
-abbrev pub has_numbers : List ℕ → ℕ → Day → Bool
-has_numbers file at day = eqb (word_of file at) day.head && eqb (word_of file (at + 3)) day.tail
+-- the numbers of a day
+abbrev pub has_numbers : List ℕ → Day → Bool
+has_numbers line day = eqb (word_of line 0) day.head && eqb (word_of line 3) day.tail
 
 -- 2000-01-01, which begins at minute 0
 abbrev pub first_known : Day
@@ -130,43 +129,55 @@ tide_in line = tide_of (notice_in line)
 abbrev pub letter_of : Bool → ℕ
 letter_of high = cond high high_letter low_letter
 
-unfoldable pub line_as : List ℕ → Line
-line_as line = cond (is_line line) (LineTide (tide_in line).at (letter_of (tide_in line).high) (day_of line)) Unread
+abbrev pub says : List ℕ → LineTide
+says line = record { minute = (tide_in line).at; water = water (tide_in line).high; day = day_of line }
+
+unfoldable pub line_as : List ℕ → Option LineTide
+line_as line = cond (is_line line) (Some (says line)) None
 
 -- ---- lines one after another
 abbrev pub fresh_course : Course
-fresh_course = record { next = 0; last = 0; ordered = true; windows = 0; allowed = false }
+fresh_course = record { next = 0; last = None; ordered = true; windows = 0; allowed = false }
+
+-- whether the last letter says this
+abbrev pub last_is : Option Water → Water → Bool
+last_is None w = false
+last_is (Some High) High = true
+last_is (Some High) Low = false
+last_is (Some Low) High = false
+last_is (Some Low) Low = true
+
+abbrev pub is_low : Water → Bool
+is_low High = false
+is_low Low = true
 
 -- a line that closes a window
-abbrev pub closes : Course → ℕ → Bool
-closes c letter = eqb c.last high_letter && eqb letter low_letter
+abbrev pub closes : Course → Water → Bool
+closes c w = last_is c.last High && is_low w
 
-unfoldable pub course_then : Course → ℕ → ℕ → ℕ → Course
-course_then c tide letter minute = record {
-  next = tide + 1;
-  last = letter;
-  ordered = c.ordered && leb c.next tide && not (eqb c.last letter);
-  windows = cond (closes c letter) (c.windows + 1) c.windows;
-  allowed = cond (closes c letter) (c.allowed || allows (record { from = c.next + 59; to = tide }) minute) c.allowed;
+unfoldable pub course_then : Course → LineTide → ℕ → Course
+course_then c tide minute = record {
+  next = tide.minute + 1;
+  last = Some tide.water;
+  ordered = c.ordered && leb c.next tide.minute && not (last_is c.last tide.water);
+  windows = cond (closes c tide.water) (c.windows + 1) c.windows;
+  allowed = cond (closes c tide.water) (c.allowed || allows (record { from = c.next + 59; to = tide.minute }) minute) c.allowed;
 }
 
 -- no sum wraps
-pub record Bounded (c : Course) (tide : ℕ) : Type 0 where
+pub record Bounded (c : Course) (tide : LineTide) : Type 0 where
   pub next_bound : c.next ≤ 2 ^ 32
-  pub tide_bound : tide < 2 ^ 32
+  pub tide_bound : tide.minute < 2 ^ 32
   pub few : c.windows < 2 ^ 64 - 1
 
 -- ---- a whole file
-unfoldable pub passing : List ℕ → ℕ → Passed
+unfoldable pub passing : List ℕ → ℕ → Result Passed Refusal
 passing file minute =
-    cond (unreadable file) (Refused 12)
-    (cond (disordered file) (Refused 13) (Windows (length (windows_in file)) (any_allows (windows_in file) minute)))
+    cond (unreadable file) (Err Line)
+    (cond (disordered file) (Err Order)
+    (Ok (record { windows = length (windows_in file); allowed = any_allows (windows_in file) minute })))
 
--- the number of a refusal; 0 where there is none
-abbrev pub passed_number : Passed → ℕ
-passed_number (Windows n b) = 0
-passed_number (Refused k) = k
-
--- where the first line stands that can open a window
-unfoldable pub first_high : List ℕ → ℕ
-first_high file = cond (ltb (length file) 19) 0 (cond (eqb (get_or file 17 0) low_letter) 19 0)
+-- which of its lines is the first that can open a window
+unfoldable pub first_high : List (List ℕ) → ℕ
+first_high [] = 0
+first_high (line ∷ lines) = cond (eqb (get_or line 17 0) low_letter) 1 0

@@ -4,7 +4,7 @@ ghost use Rattle.std.specs.Prelude.{◌≡◌};
 ghost use Rattle.tides_theory.specs.Windows.{allows};
 ghost use Rattle.tides.specs.Stages.{fresh_course, course_then, Bounded};
 
-use crate::line::{HIGH, LOW};
+use crate::line::{Tide, Water};
 
 // The minutes from a high water to its window, and those that a move takes.
 pub(crate) const WAIT: u64 = 60;
@@ -14,12 +14,12 @@ pub(crate) const MOVE_TIME: u64 = 4;
 // What is left of the wait in the minute after a high water.
 const WAIT_LEFT: u64 = WAIT - 1;
 
-// Behind some lines: the least minute that the next may have, and the last letter (both 0 at the start); whether the lines are
-// in order; how many windows they have; and whether one of these allows the minute that is asked for.
+// Behind some lines: the least minute that the next may have, and the last letter, where there is one; whether the lines are in
+// order; how many windows they have; and whether one of these allows the minute that is asked for.
 #[derive(Clone, Copy)]
 pub(crate) struct Course {
     pub(crate) next: u64,
-    pub(crate) last: u8,
+    pub(crate) last: Option<Water>,
     pub(crate) ordered: bool,
     pub(crate) windows: usize,
     pub(crate) allowed: bool,
@@ -41,34 +41,32 @@ impl Course {
     {
         Course {
             next: 0,
-            last: 0,
+            last: None,
             ordered: true,
             windows: 0,
             allowed: false,
         }
     }
 
-    // One line more: a tide at a minute, with its letter.
-    pub(crate) fn then(self, tide: u64, letter: u8, minute: u64) -> Course
+    // One line more.
+    pub(crate) fn then(self, tide: Tide, minute: u64) -> Course
         requires { Bounded self tide }
-        ensures { result ≡ course_then self tide letter minute }
+        ensures { result ≡ course_then self tide minute }
     {
-        let ordered = self.ordered & (self.next <= tide) & (self.last != letter);
-        if (self.last == HIGH) & (letter == LOW) {
+        let last = Some(tide.water);
+        let course = Course {
+            next: tide.minute + 1,
+            last,
+            ordered: self.ordered & (self.next <= tide.minute) & (self.last != last),
+            ..self
+        };
+        if (self.last == Some(Water::High)) & (tide.water == Water::Low) {
             return Course {
-                next: tide + 1,
-                last: letter,
-                ordered: ordered,
                 windows: self.windows + 1,
-                allowed: self.allowed | within(self.next + WAIT_LEFT, tide, minute),
+                allowed: self.allowed | within(self.next + WAIT_LEFT, tide.minute, minute),
+                ..course
             };
         }
-        Course {
-            next: tide + 1,
-            last: letter,
-            ordered: ordered,
-            windows: self.windows,
-            allowed: self.allowed,
-        }
+        course
     }
 }

@@ -6,4 +6,4 @@ mod calls;
 mod course;
 mod line;
 
-pub use calls::{Beginning, Counting, counts, may_begin};
+pub use calls::{counts, may_begin};

@@ -1,21 +1,26 @@
 // One line of the harbour file.
 
-ghost use Rattle.std.specs.Prelude.{◌≡◌, true, ◌+◌, ◌≤◌, ◌<◌, length, take, drop};
-ghost use Rattle.text_theory.specs.Decimals.{is_digit};
+ghost use Rattle.std.specs.Prelude.{◌≡◌, true, ◌+◌, ◌≤◌};
+ghost use Rattle.std.specs.Result.{result_ok};
 ghost use Rattle.tides_theory.specs.Lines.{is_line};
-ghost use Rattle.tides.specs.Stages.{line_bytes, date_marks, time_marks, date_ones, time_ones, is_letter, pair_of, fields_of, among as amongOf};
+ghost use Rattle.tides.specs.Stages.{date_marks, time_marks, date_ones, time_ones, water_of, pair_of, fields_of, among as amongOf};
 ghost use Rattle.tides.specs.Stages.{leap_day, length_of, lacking, date_ranged, time_ranged, start_in, time_in};
 ghost use Rattle.tides.specs.Stages.{word_of, day_as, Right, has_numbers, first_known, tide_in, line_as};
 
 // The bytes of a line, with its newline.
 pub(crate) const LINE: usize = 19;
 
-pub(crate) const HIGH: u8 = b'H';
-
-pub(crate) const LOW: u8 = b'L';
+pub(crate) type Line = [u8; LINE];
 
 // Two digits 0, as `pair` has them.
 const ZEROS: u64 = 528;
+
+// What a letter says.
+#[derive(Clone, Copy, Debug, PartialEq, Eq)]
+pub(crate) enum Water {
+    High,
+    Low,
+}
 
 // A date that has been read: the first eight of its bytes `2031-04-07,` and the last eight, each as a number, and the minute at
 // which it begins.
@@ -26,18 +31,12 @@ pub(crate) struct Day {
     start: u64,
 }
 
-// What the date of a line is read as.
-#[derive(Clone, Copy)]
-enum Dated {
-    On(Day),
-    Unread,
-}
-
 // What a line says: the minute of a tide, counted from 2000-01-01 00:00, its letter and its date.
 #[derive(Clone, Copy)]
-pub(crate) enum Line {
-    Tide(u64, u8, Day),
-    Unread,
+pub(crate) struct Tide {
+    pub(crate) minute: u64,
+    pub(crate) water: Water,
+    pub(crate) day: Day,
 }
 
 // The numbers of a line, each with ZEROS added: the years after 2000, month, day, hour and minute.
@@ -50,95 +49,53 @@ struct Fields {
     minute: u64,
 }
 
-fn is_digit(b: u8) -> bool
-    ensures { result ≡ is_digit b }
-{
-    (b'0' <= b) & (b <= b'9')
+impl TryFrom<u8> for Water {
+    type Error = ();
+
+    ghost try_from_gives = { λ letter water. result_ok water ≡ water_of letter };
+
+    fn try_from(letter: u8) -> Result<Water, ()> {
+        match letter {
+            b'H' => Ok(Water::High),
+            b'L' => Ok(Water::Low),
+            _ => Err(()),
+        }
+    }
 }
 
-fn is_letter(b: u8) -> bool
-    ensures { result ≡ is_letter b }
-{
-    (b == HIGH) | (b == LOW)
-}
-
-// Whether the date at a place has its fixed bytes; the year's first two digits are among them. Tests one by one, with an early
+// Whether the date of a line has its fixed bytes; the year's first two digits are among them. Tests one by one, with an early
 // answer, take less time than gathered ones: they hold nearly always.
-fn date_marked(file: &[u8], at: usize) -> bool
-    requires { at + 19 ≤ length file.now }
-    ensures { result ≡ date_marks (line_bytes file.now at) }
+fn date_marked(line: &Line) -> bool
+    ensures { result ≡ date_marks line.now }
 {
-    if file[at] != b'2' {
-        return false;
-    }
-    if file[at + 1] != b'0' {
-        return false;
-    }
-    if file[at + 4] != b'-' {
-        return false;
-    }
-    if file[at + 7] != b'-' {
-        return false;
-    }
-    file[at + 10] == b','
+    line[0] == b'2' && line[1] == b'0' && line[4] == b'-' && line[7] == b'-' && line[10] == b','
 }
 
 // Whether what stands behind it has them.
-fn time_marked(file: &[u8], at: usize) -> bool
-    requires { at + 19 ≤ length file.now }
-    ensures { result ≡ time_marks (line_bytes file.now at) }
+fn time_marked(line: &Line) -> bool
+    ensures { result ≡ time_marks line.now }
 {
-    if file[at + 13] != b':' {
-        return false;
-    }
-    if file[at + 16] != b',' {
-        return false;
-    }
-    file[at + 18] == b'\n'
+    line[13] == b':' && line[16] == b',' && line[18] == b'\n'
 }
 
 // Whether the last byte of each number of the date is a digit. The first then is one too, if the number is in its range.
-fn date_digits(file: &[u8], at: usize) -> bool
-    requires { at + 19 ≤ length file.now }
-    ensures { result ≡ date_ones (line_bytes file.now at) }
+fn date_digits(line: &Line) -> bool
+    ensures { result ≡ date_ones line.now }
 {
-    if !is_digit(file[at + 3]) {
-        return false;
-    }
-    if !is_digit(file[at + 6]) {
-        return false;
-    }
-    is_digit(file[at + 9])
+    line[3].is_ascii_digit() && line[6].is_ascii_digit() && line[9].is_ascii_digit()
 }
 
-fn time_digits(file: &[u8], at: usize) -> bool
-    requires { at + 19 ≤ length file.now }
-    ensures { result ≡ time_ones (line_bytes file.now at) }
+fn time_digits(line: &Line) -> bool
+    ensures { result ≡ time_ones line.now }
 {
-    if !is_digit(file[at + 12]) {
-        return false;
-    }
-    is_digit(file[at + 15])
+    line[12].is_ascii_digit() && line[15].is_ascii_digit()
 }
 
 // The number that two digits say, with ZEROS added.
 fn pair(a: u8, b: u8) -> u64
     ensures { result ≡ pair_of a b }
 {
-    a as u64 * 10 + b as u64
-}
-
-fn fields_at(file: &[u8], at: usize) -> Fields
-    requires { at + 19 ≤ length file.now }
-    ensures { result ≡ fields_of (line_bytes file.now at) }
-{
-    Fields {
-        years: pair(file[at + 2], file[at + 3]),
-        month: pair(file[at + 5], file[at + 6]),
-        day: pair(file[at + 8], file[at + 9]),
-        hour: pair(file[at + 11], file[at + 12]),
-        minute: pair(file[at + 14], file[at + 15]),
-    }
+    u64::from(a) * 10 + u64::from(b)
 }
 
 // Whether a number lies in a range.
@@ -153,7 +110,7 @@ fn among(pair: u64, first: u64, last: u64) -> bool
 fn leap_day(years: u64) -> u64
     ensures { result ≡ leap_day years }
 {
-    if years % 4 == 0 { 1 } else { 0 }
+    u64::from(years % 4 == 0)
 }
 
 // The days of a month: odd ones up to July and even ones from August on have 31.
@@ -178,29 +135,34 @@ fn lacking_before(years: u64, month: u64) -> u64
 }
 
 impl Fields {
+    fn of(line: &Line) -> Fields
+        ensures { result ≡ fields_of line.now }
+    {
+        Fields {
+            years: pair(line[2], line[3]),
+            month: pair(line[5], line[6]),
+            day: pair(line[8], line[9]),
+            hour: pair(line[11], line[12]),
+            minute: pair(line[14], line[15]),
+        }
+    }
+
     fn date_in_range(self) -> bool
         ensures { result ≡ date_ranged self }
     {
-        if !among(self.years, 0, 99) {
-            return false;
-        }
-        if !among(self.month, 1, 12) {
-            return false;
-        }
-        among(
-            self.day,
-            1,
-            month_length(self.years - ZEROS, self.month - ZEROS),
-        )
+        among(self.years, 0, 99)
+            && among(self.month, 1, 12)
+            && among(
+                self.day,
+                1,
+                month_length(self.years - ZEROS, self.month - ZEROS),
+            )
     }
 
     fn time_in_range(self) -> bool
         ensures { result ≡ time_ranged self }
     {
-        if !among(self.hour, 0, 23) {
-            return false;
-        }
-        among(self.minute, 0, 59)
+        among(self.hour, 0, 23) && among(self.minute, 0, 59)
     }
 
     // The minute at which the date begins, counted from 2000-01-01 00:00. If February had 30 days, there would be
@@ -225,25 +187,21 @@ impl Fields {
     }
 }
 
-fn wide(b: u8) -> u64
-    ensures { (result ≡ b) × (result < 256) }
+// Eight bytes as a number. The compiler makes one load of them.
+fn word_at(line: &Line, at: usize) -> u64
+    requires { at + 8 ≤ 19 }
+    ensures { result ≡ word_of line.now at }
 {
-    b as u64
-}
-
-// Eight bytes as a number. The compiler makes one load of the sum.
-fn word_at(file: &[u8], at: usize) -> u64
-    requires { at + 8 ≤ length file.now }
-    ensures { result ≡ word_of file.now at }
-{
-    wide(file[at])
-        + wide(file[at + 1]) * 256
-        + wide(file[at + 2]) * 65536
-        + wide(file[at + 3]) * 16777216
-        + wide(file[at + 4]) * 4294967296
-        + wide(file[at + 5]) * 1099511627776
-        + wide(file[at + 6]) * 281474976710656
-        + wide(file[at + 7]) * 72057594037927936
+    u64::from_le_bytes([
+        line[at],
+        line[at + 1],
+        line[at + 2],
+        line[at + 3],
+        line[at + 4],
+        line[at + 5],
+        line[at + 6],
+        line[at + 7],
+    ])
 }
 
 impl Day {
@@ -252,88 +210,74 @@ impl Day {
         ensures { result ≡ first_known }
     {
         Day {
-            head: 0x2d31302d30303032,
-            tail: 0x2c31302d31302d30,
+            head: u64::from_le_bytes(*b"2000-01-"),
+            tail: u64::from_le_bytes(*b"0-01-01,"),
             start: 0,
         }
     }
 
-    // Whether the line at a place has this date. Here too, one test after the other takes less time.
-    fn is_at(self, file: &[u8], at: usize) -> bool
-        requires { at + 19 ≤ length file.now }
-        ensures { result ≡ has_numbers file.now at self }
+    // Whether a line has this date. Here too, one test after the other takes less time.
+    fn is_of(self, line: &Line) -> bool
+        ensures { result ≡ has_numbers line.now self }
     {
-        if word_at(file, at) != self.head {
-            return false;
+        word_at(line, 0) == self.head && word_at(line, 3) == self.tail
+    }
+
+    fn read(line: &Line) -> Option<Day>
+        ensures { result ≡ day_as line.now }
+    {
+        if !date_marked(line) || !date_digits(line) {
+            return None;
         }
-        word_at(file, at + 3) == self.tail
+        let fields = Fields::of(line);
+        if !fields.date_in_range() {
+            return None;
+        }
+        Some(Day {
+            head: word_at(line, 0),
+            tail: word_at(line, 3),
+            start: fields.start(),
+        })
+    }
+
+    // The same, in less time where it is the known one.
+    fn read_knowing(line: &Line, known: Day) -> Option<Day>
+        requires { Right known }
+        ensures { result ≡ day_as line.now }
+    {
+        if known.is_of(line) {
+            return Some(known);
+        }
+        Day::read(line)
     }
 }
 
-// The date of the line at a place.
-fn day_at(file: &[u8], at: usize) -> Dated
-    requires { at + 19 ≤ length file.now }
-    ensures { result ≡ day_as (line_bytes file.now at) }
+// What a line says. The known date is that of the line before, which three of four lines have too.
+pub(crate) fn read_line(line: &Line, known: Day) -> Option<Tide>
+    requires { Right known }
+    ensures { result ≡ line_as line.now }
 {
-    if !date_marked(file, at) {
-        return Dated::Unread;
+    let day = Day::read_knowing(line, known)?;
+    if !time_marked(line) || !time_digits(line) {
+        return None;
     }
-    if !date_digits(file, at) {
-        return Dated::Unread;
+    let water = Water::try_from(line[17]).ok()?;
+    let fields = Fields::of(line);
+    if !fields.time_in_range() {
+        return None;
     }
-    let fields = fields_at(file, at);
-    if !fields.date_in_range() {
-        return Dated::Unread;
-    }
-    Dated::On(Day {
-        head: word_at(file, at),
-        tail: word_at(file, at + 3),
-        start: fields.start(),
+    Some(Tide {
+        minute: day.start + fields.time(),
+        water,
+        day,
     })
 }
 
-// The same, in less time where it is the known one.
-fn day_knowing(file: &[u8], at: usize, known: Day) -> Dated
-    requires { (at + 19 ≤ length file.now) × Right known }
-    ensures { result ≡ day_as (line_bytes file.now at) }
-{
-    if known.is_at(file, at) {
-        return Dated::On(known);
-    }
-    day_at(file, at)
-}
-
-// The line at a place. The known date is that of the line before, which three of four lines have too.
-pub(crate) fn line_at(file: &[u8], at: usize, known: Day) -> Line
-    requires { (at + 19 ≤ length file.now) × Right known }
-    ensures { result ≡ line_as (take 19 (drop at file.now)) }
-{
-    let dated = day_knowing(file, at, known);
-    let Dated::On(day) = dated else {
-        return Line::Unread;
-    };
-    if !time_marked(file, at) {
-        return Line::Unread;
-    }
-    if !time_digits(file, at) {
-        return Line::Unread;
-    }
-    let letter = file[at + 17];
-    if !is_letter(letter) {
-        return Line::Unread;
-    }
-    let fields = fields_at(file, at);
-    if !fields.time_in_range() {
-        return Line::Unread;
-    }
-    Line::Tide(day.start + fields.time(), letter, day)
-}
-
 // The minute of a line that has been read before.
-pub(crate) fn minute_at(file: &[u8], at: usize) -> u64
-    requires { (at + 19 ≤ length file.now) × (is_line (take 19 (drop at file.now)) ≡ true) }
-    ensures { result ≡ (tide_in (take 19 (drop at file.now))).at }
+pub(crate) fn minute_of(line: &Line) -> u64
+    requires { is_line line.now ≡ true }
+    ensures { result ≡ (tide_in line.now).at }
 {
-    let fields = fields_at(file, at);
+    let fields = Fields::of(line);
     fields.start() + fields.time()
 }

@@ -6,7 +6,8 @@ use native.Mathlib.Numerals.{add-one}
 use native.Mathlib.Omega.{arith}
 use mathlib.Core.Path.{◌≡◌, refl, sym, ap, ◌∙◌}
 use mathlib.Core.Bool.{Bool, true, false, cond, ◌&&◌, not, and-eq-true_iff}
-use mathlib.Core.Option.{Option, some}
+use mathlib.Core.Option as theory
+use Rattle.std.specs.Prelude.{Option, Some, None}
 use borrow.Author.Tests.{eq-eqb, ne_eqb, eqb-true, leb-true, lt-ltb, le-ltb}
 use lib.Dec.{eqb, leb}
 use Rattle.gray_theory.specs.Bools.{impossible}
@@ -118,19 +119,19 @@ module _ (test : ℕ → Bool) where
       ]
 
 module _ (n : ℕ) (test : ℕ → Bool) where
-  pub found_here : (i : ℕ) → i < n → test i ≡ true → NoneBelow i test → found n i ≡ smallest n test
-  found_here i h e before = rw (lt-ltb i n h) (sym (smallest_some n test i h e before))
+  pub found_here : (i : ℕ) → i < n → test i ≡ true → NoneBelow i test → found (Some i) ≡ smallest n test
+  found_here i h e before = sym (smallest_some n test i h e before)
 
-  pub found_none : (i : ℕ) → n ≤ i → NoneBelow i test → found n n ≡ smallest n test
-  found_none i h before = rw (le-ltb n n (omega arith)) (sym (smallest-none n test (λ k below. before k (omega arith))))
+  pub found_none : NoneBelow n test → found None ≡ smallest n test
+  found_none before = sym (smallest-none n test before)
 
 -- on a ring, in a sweep and after it
-module _ (n m turn : ℕ) (other : Option ℕ) where
-  pub first_found : 0 < n → turn < m - 1 → found n 0 ≡ cond (sweeping m turn) (some 0) other
-  first_found some_one h = rw (lt-ltb 0 n some_one, lt-ltb turn (m - 1) h)
+module _ (m turn : ℕ) (other : theory.Option ℕ) where
+  pub first_found : turn < m - 1 → found (Some 0) ≡ cond (sweeping m turn) (theory.some 0) other
+  first_found h = rw (lt-ltb turn (m - 1) h)
 
-  pub other_found : (i : ℕ) → m - 1 ≤ turn → found n i ≡ other → found n i ≡ cond (sweeping m turn) (some 0) other
-  other_found i h e = e ∙ sym (ap (λ b. cond b (some 0) other) (le-ltb turn (m - 1) h))
+  pub other_found : (i : Option ℕ) → m - 1 ≤ turn → found i ≡ other → found i ≡ cond (sweeping m turn) (theory.some 0) other
+  other_found i h e = e ∙ sym (ap (λ b. cond b (theory.some 0) other) (le-ltb turn (m - 1) h))
 
 -- ---- which game is played, by the rest that the code tests
 module _ (m : ℕ) where

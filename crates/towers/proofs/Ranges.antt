@@ -6,6 +6,7 @@ use mathlib.Core.Bool.{Bool, true, false, cond, ◌&&◌, ◌||◌, not, and-eq-
 use mathlib.Core.List.{List, ◌∷◌}
 use borrow.Author.Tests.{le-leb, lt-leb, leb-true, eqb-true}
 use lib.Dec.{eqb, ltb, leb}
+use Rattle.std.specs.Prelude.{Result, Ok, Err, is_err}
 use lib.ListN.{length, get_or, take, length-reverse}
 use lib.Seq.{length-take-le, get_or-take}
 use Rattle.gray_theory.specs.Answers.{Answer, given, refused, refusing, is_given}
@@ -26,6 +27,8 @@ use Rattle.gray_theory.proofs.Filled.{take-filled, length-filled}
 use Rattle.gray_theory.specs.Radices.{Limits}
 use Rattle.gray_theory.proofs.Refusals.{within_limits, limits_pass, accepted, given_unless}
 use Rattle.gray_theory.proofs.Refusals.{radices_accepted, survey_refused, survey_accepted}
+use Rattle.gray.specs.Enums.{refusal_number, answer_as}
+use Rattle.gray.specs.declared.Refusal.{Refusal}
 use Rattle.towers_theory.specs.States.{Towers, common, wrong_counts, open_check, survey, disks, Arrays}
 use Rattle.towers_theory.specs.States.{turn_in_range, pegs_in_range, in_range}
 use Rattle.towers_theory.specs.Choices.{digit_of}
@@ -46,23 +49,26 @@ module _ (s : Towers) (k : ℕ) (wide : k ≡ s.directed.n) where
   same_survey : take k s.directed.radices ≡ survey s
   same_survey = ap (λ j. take j s.directed.radices) wide
 
-  pub radices_refused : (number : ℕ) → size_call (take k s.directed.radices) ≡ refused number → false ≡ survey_fits s
+  pub radices_refused : (o : Result ℕ Refusal) → answer_as o ≡ size_call (take k s.directed.radices) → is_err o ≡ true → false ≡ survey_fits s
   unfolding survey_fits
-  radices_refused number e =
+  radices_refused (Ok total) e f = impossible (cc)
+  radices_refused (Err r) e f =
       let right = moving_in_range (survey s) s.directed.moving in
       let fails : is_given (limits_check (survey s)) ≡ false =
-      survey_refused (survey s) (given tt) number (ap size_call (sym same_survey) ∙ e) in
+      survey_refused (survey s) (given tt) (refusal_number r) (ap size_call (sym same_survey) ∙ sym e) in
       sym (ap (λ b. leb s.directed.n 48 && b && right) fails ∙ ap (λ b. b && right) (and-false (leb s.directed.n 48)))
 
-  pub moving_decides : (total : ℕ) (ok : Bool)
+  pub moving_decides : (o : Result ℕ Refusal) (ok : Bool)
       → s.directed.n ≤ 48
-      → size_call (take k s.directed.radices) ≡ given total
+      → answer_as o ≡ size_call (take k s.directed.radices)
+      → is_err o ≡ false
       → ok ≡ moving_in_range (survey s) s.directed.moving
       → ok ≡ survey_fits s
   unfolding survey_fits
-  moving_decides total ok most accept tested =
+  moving_decides (Err r) ok most e f tested = impossible (cc)
+  moving_decides (Ok total) ok most e f tested =
       let passes : is_given (limits_check (survey s)) ≡ true =
-      ap is_given (survey_accepted (survey s) (given tt) total (ap size_call (sym same_survey) ∙ accept)) in
+      ap is_given (survey_accepted (survey s) (given tt) total (ap size_call (sym same_survey) ∙ sym e)) in
       tested
       ∙ sym (ap₂ (λ a b. a && b && moving_in_range (survey s) s.directed.moving) (le-leb s.directed.n 48 most) passes)
 

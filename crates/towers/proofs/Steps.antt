@@ -5,7 +5,7 @@ use mathlib.Core.Path.{◌≡◌, refl, sym, ap, ap₂, ◌∙◌}
 use mathlib.Core.Bool.{Bool, true, false, cond, ◌&&◌, not}
 use mathlib.Core.List.{List}
 use mathlib.Core.Option.{Option, none, some}
-use borrow.Author.Tests.{lt-ltb, le-ltb}
+use Rattle.std.specs.Prelude as Maybe
 use lib.Dec.{eqb}
 use lib.ListN.{length, get_or, set, take}
 use lib.Seq.{length-take-le, get_or-take, set-get_or}
@@ -22,11 +22,17 @@ use Rattle.towers_theory.specs.Choices.{side_peg, digit_of, peg_of, smallest, on
 use Rattle.towers_theory.specs.Choices.{chosen_on_pair, chosen_on_ring, chosen}
 use Rattle.towers_theory.specs.Calls.{turn_by, turn_after, peg_after, pegs_after, move_of, move_by, step_of}
 use Rattle.towers.specs.Stages.{found, PairDisks, survey_fits, last_radix, DigitAt, Movable}
-use Rattle.towers_theory.proofs.Smallest.{smallest_same, smallest-elsewhere_is_top}
+use Rattle.towers_theory.proofs.Smallest.{smallest_same, smallest-says, smallest-elsewhere_is_top}
 use Rattle.towers_theory.proofs.Openings.{openable}
 use Rattle.towers_theory.proofs.InRange.{Ranged, range_says, some_disk}
 use Rattle.towers.proofs.Plays.{Leads}
 use Rattle.towers.proofs.Ranges.{Fits, says_fits, ranged_fits, disk_count, count_most, digit_of_lem, digit_at, leading}
+
+-- disk i + 1 is the one that a call moves
+pub record Chosen (s : Towers) (i : ℕ) : Type 0 where
+  pub choice : found (Maybe.Some i) ≡ chosen s
+  pub within : i < s.directed.moving.count
+  pub few : i < 48
 
 under_cond : {A : Type 0} (b : Bool) (x y z : A) → (b ≡ false → y ≡ z) → cond b x y ≡ cond b x z
 under_cond true x y z same = refl
@@ -93,19 +99,31 @@ module _ (s : Towers) (long : Arrays s) (ranged : in_range s ≡ true) where
         let many = disk_count s long fits in
         omega arith
 
+    -- the disk that is chosen is one of them
+    pub chosen_within : (i : ℕ) → found (Maybe.Some i) ≡ chosen s → i < s.directed.moving.count
+    unfolding chosen
+    chosen_within i choice = go (all_odd (disks s)) refl choice
+      where
+        first : (sweep : Bool) → some i ≡ ring_choice sweep → 0 < s.directed.moving.count → i < s.directed.moving.count
+        first true e h = let z : i ≡ 0 = cc in omega arith
+        first false e h = (smallest-says s.directed.moving.count (λ k. is_top s k && elsewhere s k) i (sym e)).within
+
+        go : (odd : Bool) → all_odd (disks s) ≡ odd → some i ≡ cond odd (chosen_on_pair s) (chosen_on_ring s) → i < s.directed.moving.count
+        go true odd e = (smallest-says s.directed.moving.count (λ k. on_pair s.turn (peg_of s k)) i (sym e)).within
+        go false ring e = first (sweeping (common (disks s)) s.turn) e (first_disk (sym leads.odd ∙ ring))
+
     -- the code counts the disks as a wide number, and looks at the first k places of its arrays
     module _ (k : ℕ) (wide : k ≡ s.directed.moving.count) where
       -- what is found among the first k places, at once or by a test, is found among the disks
-      found_among : (l : List ℕ) (r : ℕ) (at_once : Bool) (f g : ℕ → Bool)
+      found_among : (l : List ℕ) (r : Maybe.Option ℕ) (at_once : Bool) (f g : ℕ → Bool)
           → length l ≡ 48
-          → found (length (take k l)) r ≡ cond at_once (some 0) (smallest (length (take k l)) f)
+          → found r ≡ cond at_once (some 0) (smallest (length (take k l)) f)
           → ((i : ℕ) → i < k → f i ≡ g i)
-          → found s.directed.moving.count r ≡ cond at_once (some 0) (smallest s.directed.moving.count g)
+          → found r ≡ cond at_once (some 0) (smallest s.directed.moving.count g)
       found_among l r at_once f g room e same =
           let most = count_fits in
           let count : length (take k l) ≡ s.directed.moving.count = length-take-le k l (omega arith) ∙ wide in
-          sym (ap (λ n. found n r) count)
-          ∙ e
+          e
           ∙ ap (λ n. cond at_once (some 0) (smallest n f)) count
           ∙ ap (cond at_once (some 0)) (smallest_same s.directed.moving.count f g (λ i h. same i (omega arith)))
 
@@ -139,11 +157,11 @@ module _ (s : Towers) (long : Arrays s) (ranged : in_range s ≡ true) where
       abbrev pair_test : ℕ → ℕ → Bool
       pair_test number i = on_pair s.turn (side_peg (get_or s.directed.radices (number - 1) 0) (get_or s.directed.word (number - 1) 0))
 
-      pub chooses_on_pair : (r : ℕ)
+      pub chooses_on_pair : (r : Maybe.Option ℕ)
           → not (even m) ≡ true
-          → found (length (take k s.directed.moving.digits)) r
+          → found r
           ≡ smallest (length (take k s.directed.moving.digits)) (λ i. pair_test (get_or (take k s.directed.moving.digits) i 0) i)
-          → found s.directed.moving.count r ≡ chosen s
+          → found r ≡ chosen s
       chooses_on_pair r e f =
           let odd = leads.odd ∙ e in
           found_among s.directed.moving.digits r false
@@ -156,12 +174,12 @@ module _ (s : Towers) (long : Arrays s) (ranged : in_range s ≡ true) where
           ∙ ap (on_pair s.turn) (sym (peg_by true odd i)))
           ∙ chosen_by true odd
 
-      pub chooses_on_ring : (r : ℕ)
+      pub chooses_on_ring : (r : Maybe.Option ℕ)
           → not (even m) ≡ false
-          → found (length (take k s.pegs)) r
+          → found r
           ≡ cond (sweeping m s.turn) (some 0)
           (smallest (length (take k s.pegs)) (λ i. not (eqb (get_or (take k s.pegs) i 0) (get_or (take k s.pegs) 0 0))))
-          → found s.directed.moving.count r ≡ chosen s
+          → found r ≡ chosen s
       chooses_on_ring r e f =
           let ring = leads.odd ∙ e in
           let one = first_disk e in
@@ -272,14 +290,14 @@ module _ (s : Towers) where
   unfolding step_of
   refused_faulty e = sym (ap (λ b. cond (not b) (refused_with 7 s) (move_by s (chosen s))) e)
 
-  module _ (ranged : in_range s ≡ true) (i : ℕ) (choice : found s.directed.moving.count i ≡ chosen s) where
-    goes_by : (o : Option ℕ) → found s.directed.moving.count i ≡ o → move_by s o ≡ step_of s
+  module _ (ranged : in_range s ≡ true) where
+    goes_by : (o : Option ℕ) → o ≡ chosen s → move_by s o ≡ step_of s
     unfolding step_of
-    goes_by o e =
-        ap (move_by s) (sym e ∙ choice) ∙ sym (ap (λ b. cond (not b) (refused_with 7 s) (move_by s (chosen s))) ranged)
+    goes_by o choice =
+        ap (move_by s) choice ∙ sym (ap (λ b. cond (not b) (refused_with 7 s) (move_by s (chosen s))) ranged)
 
-    pub walk-over : s.directed.moving.count ≤ i → record { state = s; answer = given ended } ≡ step_of s
-    walk-over h = goes_by none (ap (λ b. cond b (some i) none) (le-ltb i s.directed.moving.count h))
+    pub walk-over : found Maybe.None ≡ chosen s → record { state = s; answer = given ended } ≡ step_of s
+    walk-over choice = goes_by none choice
 
-    pub moves_disk : i < s.directed.moving.count → move_of s i ≡ step_of s
-    moves_disk h = goes_by (some i) (ap (λ b. cond b (some i) none) (lt-ltb i s.directed.moving.count h))
+    pub moves_disk : (i : ℕ) → found (Maybe.Some i) ≡ chosen s → move_of s i ≡ step_of s
+    moves_disk i choice = goes_by (some i) choice

@@ -1,6 +1,6 @@
 -- What private functions of the engine ask for and answer.
-use Rattle.std.specs.Prelude.{ℕ, ◌+◌, ◌-◌, ◌≤◌, ◌<◌, ◌≡◌, Bool, true, false, cond, ◌&&◌, ◌||◌, not, List, ◌∷◌, eqb, ltb, leb, length, get_or, set}
-use Rattle.std.proofs.Math.Option.{Option, none, some}
+use Rattle.std.specs.Prelude.{ℕ, Option, Some, None, ◌+◌, ◌-◌, ◌≤◌, ◌<◌, ◌≡◌, Bool, true, false, ◌&&◌, ◌||◌, not, List, ◌∷◌, eqb, ltb, leb, length, get_or, set}
+use Rattle.std.proofs.Math.Option as theory
 use Rattle.gray_theory.specs.Answers.{Answer, given, is_given}
 use Rattle.gray_theory.specs.Radices.{of_radices}
 use Rattle.gray_theory.specs.Locks.{moving_in_range}
@@ -12,9 +12,10 @@ use Rattle.gray_theory.specs.Engines.{Event, moved, ended, Handed}
 use Rattle.digit.specs.Advances.{advanced_from}
 use Rattle.towers_theory.specs.States.{Towers, survey, disks, in_range, Arrays}
 
--- an index below n says a disk, any other says that there is none
-abbrev pub found : ℕ → ℕ → Option ℕ
-found n i = cond (ltb i n) (some i) none
+-- a search's answer, as the theory has it
+abbrev pub found : Option ℕ → theory.Option ℕ
+found None = theory.none
+found (Some i) = theory.some i
 
 -- the first part of the range rule: the survey is within its limits, and the digits that move are its own
 abbrev pub limits_check : List ℕ → Answer Unit
@@ -30,6 +31,10 @@ last_radix ms = get_or (1 ∷ ms) (length ms) 0
 -- a radix goes with that of the last disk, m
 abbrev pub plays : ℕ → ℕ → Bool
 plays m radix = ltb radix 2 || (eqb radix m || (not (even m) && not (even radix)))
+
+-- what a closure answers, as its bound's `post` has it, is a test of the byte that it is given
+abbrev pub TestsBytes : (ℕ → Bool → Type 0) → (ℕ → Bool) → Type 0
+TestsBytes post test = (byte : ℕ) (answer : Bool) → byte < 256 → post byte answer → answer ≡ test byte
 
 -- there is a number at an index of the digits that move; where all move (free) it is that of the index
 pub record DigitAt (free : Bool) (digits : List ℕ) (i : ℕ) : Type 0 where
@@ -76,9 +81,16 @@ pub record Playing (m : ℕ) (s : Towers) : Type 0 where
   pub long : Arrays s
   pub told : m ≡ last_radix (disks s)
 
--- what a call of a run leaves: the state that the engine's call hands back, and a byte: 0 where that says end, else its move's
-pub record Called (handed : Handed Towers Event) (byte : ℕ) (left : Towers) : Type 0 where
+-- a move: the state that the engine's call hands back, and the byte of the change that it names
+pub record MoveMade (handed : Handed Towers Event) (byte : ℕ) (left : Towers) : Type 0 where
   pub hands : handed.state ≡ left
-  pub ends : byte ≡ 0 → handed.answer ≡ given ended
-  pub moves : (byte ≡ 0 → ⊥)
-      → (c : Change) × (notch : ℕ) × (handed.answer ≡ given (moved c notch)) × (byte ≡ move_byte c.digit c.down)
+  pub change : Change
+  pub notch : ℕ
+  pub answers : handed.answer ≡ given (moved change notch)
+  pub says : byte ≡ move_byte change.digit change.down
+
+-- what a call of a run leaves, a state but for its turn: the engine's call says end and leaves the turn, or makes the move whose
+-- byte comes with the turn after it
+abbrev pub Called : Handed Towers Event → (ℕ → Towers) → ℕ → Option (ℕ × ℕ) → Type 0
+Called handed left turn None = handed ≡ record { state = left turn; answer = given ended }
+Called handed left turn (Some made) = MoveMade handed made.0 (left made.1)

@@ -1,14 +1,14 @@
 -- The structs in document 01's terms.
-use Rattle.std.specs.Prelude.{ℕ, List}
+use Rattle.std.specs.Prelude.{ℕ, List, Result}
 use Rattle.gray_theory.specs.Engines.{Event, Handed}
-use Rattle.gray_theory.specs.RunCalls.{Running}
+use Rattle.gray_theory.specs.RunCalls as theory
 use Rattle.digit.specs.Moving.{moving_as}
-use Rattle.gray.specs.Enums.{opening_as, stepping_as, running_as}
+use Rattle.gray.specs.Enums.{answer_as, stepping_as, running_as}
 use Rattle.towers_theory.specs.States.{Towers}
 use Rattle.towers.specs.declared.Towers.{Towers as TowersStruct}
-use Rattle.towers.specs.declared.Opened.{Opened}
-use Rattle.towers.specs.declared.Stepped.{Stepped}
-use Rattle.towers.specs.declared.Ran.{Ran}
+use Rattle.gray.specs.declared.Refusal.{Refusal}
+use Rattle.gray.specs.declared.Stepping.{Stepping}
+use Rattle.gray.specs.declared.Running.{Running}
 
 -- the state that a struct holds: its fields, each as it is, and no other
 abbrev pub towers_as : TowersStruct → Towers
@@ -19,12 +19,12 @@ towers_as s = record {
   pegs = s.pegs;
 }
 
--- what the calls return
-abbrev pub opened_as : Opened → Handed Towers Unit
-opened_as r = record { state = towers_as r.towers; answer = opening_as r.answer }
+-- what the calls return: a state and an answer
+abbrev pub opened_as : TowersStruct × Result Unit Refusal → Handed Towers Unit
+opened_as r = record { state = towers_as r.0; answer = answer_as r.1 }
 
-abbrev pub stepped_as : Stepped → Handed Towers Event
-stepped_as r = record { state = towers_as r.towers; answer = stepping_as r.answer }
+abbrev pub stepped_as : TowersStruct × Result Stepping Refusal → Handed Towers Event
+stepped_as r = record { state = towers_as r.0; answer = stepping_as r.1 }
 
-abbrev pub ran_as : Ran → List ℕ → Running Towers
-ran_as r out = record { state = towers_as r.towers; answer = running_as r.answer; out = out }
+abbrev pub ran_as : TowersStruct × Result Running Refusal → List ℕ → theory.Running Towers
+ran_as r out = record { state = towers_as r.0; answer = running_as r.1; out = out }

@@ -4,7 +4,7 @@
 
 #![tactic(auto)]
 
-ghost use Rattle.std.specs.Prelude.{◌≡◌, true, cond, ◌&&◌, ◌||◌, not, ◌+◌, ◌-◌, ◌≤◌, ◌<◌, eqb, leb, ltb, length, take, get_or};
+ghost use Rattle.std.specs.Prelude.{◌≡◌, ℕ, Bool, true, cond, ◌&&◌, ◌||◌, not, ◌+◌, ◌-◌, ◌≤◌, ◌<◌, eqb, leb, ltb, length, take, get_or};
 ghost use Rattle.std.proofs.Math.Option.{some};
 ghost use Rattle.gray_theory.specs.Directions.{all_below, digit_in_range};
 ghost use Rattle.gray_theory.specs.DirectedWords.{fresh_with};
@@ -14,11 +14,11 @@ ghost use Rattle.towers_theory.specs.States.{disks, in_range};
 ghost use Rattle.towers_theory.specs.Choices.{side_peg, on_pair, sweeping, smallest, chosen};
 ghost use Rattle.towers_theory.specs.Calls.{fresh_on, closed_towers, open_of, turn_by, peg_after, move_of, step_of, run_of};
 ghost use Rattle.towers.specs.Structs.{towers_as, opened_as, stepped_as, ran_as};
-ghost use Rattle.towers.specs.Stages.{found, plays, last_radix, DigitAt, PairDisks, survey_fits};
+ghost use Rattle.towers.specs.Stages.{found, plays, TestsBytes, last_radix, DigitAt, PairDisks, survey_fits};
 ghost use Rattle.towers.specs.Stages.{state_of, Movable, DigitMoved, Playing, Called};
 
 use digit::{Directed, MovingDigits};
-use gray::{Counted, DIGITS, Opening, Running, Stepping};
+use gray::{DIGITS, Refusal, Running, Stepping};
 
 // The state: the survey (radices and their number n), the word (setting), the turn, the directions (down or not), the digits
 // that move, in rising order, and the pegs. For odd radices the turn says which pair of pegs is next, 0 for the left one; a
@@ -35,82 +35,43 @@ pub struct Towers {
     pub pegs: [u8; DIGITS],
 }
 
-#[derive(Clone, Copy)]
-pub struct Opened {
-    pub towers: Towers,
-    pub answer: Opening,
-}
-
-#[derive(Clone, Copy)]
-pub struct Stepped {
-    pub towers: Towers,
-    pub answer: Stepping,
-}
-
-#[derive(Clone, Copy)]
-pub struct Ran {
-    pub towers: Towers,
-    pub answer: Running,
-}
-
-// What a call of a run leaves besides its arrays: the byte of its move, 0 where it finds no disk, and the turn then.
-#[derive(Clone, Copy)]
-struct Played {
-    byte: u8,
-    turn: u8,
-}
-
-// The bound spares callers a fact about the byte that they read.
-fn wide(x: u8) -> usize
-    ensures { (result ≡ x) × (result < 256) }
+// Whether each of the first n bytes passes a test; where n is over 48, each of all. The loop goes over all places, whatever n
+// is, and gathers its tests with no way out in between: three turns on vectors.
+fn all_pass<F: Fn(u8) -> bool>(n: u8, bytes: [u8; DIGITS], passes: F) -> bool
+    requires { F.IsAlwaysCallable passes }
+    ensures { (test : ℕ → Bool) → TestsBytes (F.post passes) test
+        → result ≡ all_below (length (take n bytes)) (λ i. test (get_or bytes i 0)) }
 {
-    x as usize
+    let mut ok = true;
+    // The number is counted beside the byte for speed: made of the index, it is compared as 64 bits.
+    let mut number: u8 = 0;
+    for byte in bytes {
+        number += 1;
+        ok &= (n < number) | passes(byte);
+    }
+    ok
 }
 
-// Whether a radix goes with m, that of the last disk, or is one past the n that count. Locked digits go with every game, and
-// odd radices with each other; an even one wants its like.
-fn radix_plays(n: u8, number: u8, m: u8, radix: u8) -> bool
-    ensures { result ≡ (ltb n number || plays m radix) }
+// Whether a radix goes with m, that of the last disk. Locked digits go with every game, and odd radices with each other; an
+// even one wants its like.
+fn radix_plays(m: u8, radix: u8) -> bool
+    ensures { result ≡ plays m radix }
 {
-    (n < number) | ((radix < 2) | ((radix == m) | ((m % 2 != 0) & (radix % 2 != 0))))
+    (radix < 2) | ((radix == m) | ((m % 2 != 0) & (radix % 2 != 0)))
 }
 
-// Whether the game is played with n radices. The loop goes over all places, whatever n is, and gathers its tests with no way
-// out in between: three turns on vectors.
+// Whether the game is played with n radices.
 fn radices_play(n: u8, m: u8, radices: [u8; DIGITS]) -> bool
     ensures { result ≡ all_below (length (take n radices)) (λ i. plays m (get_or radices i 0)) }
 {
-    let mut number: u8 = 0;
-    let mut ok = true;
-    let mut i = 0;
-    while i < DIGITS {
-        number += 1;
-        ok = ok & radix_plays(n, number, m, radices[i]);
-        i += 1;
-    }
-    ok
+    all_pass(n, radices, |radix| radix_plays(m, radix))
 }
 
-// A peg on a ring of m + 1, or one past the disks.
-fn peg_within(count: u8, number: u8, m: u8, peg: u8) -> bool
-    ensures { result ≡ (ltb count number || leb peg m) }
-{
-    (count < number) | (peg <= m)
-}
-
-// The pegs of all disks, in one loop over all places, as above.
+// The pegs of all disks are on a ring of m + 1.
 fn pegs_within(count: u8, m: u8, pegs: [u8; DIGITS]) -> bool
     ensures { result ≡ all_below (length (take count pegs)) (λ i. leb (get_or pegs i 0) m) }
 {
-    let mut number: u8 = 0;
-    let mut ok = true;
-    let mut i = 0;
-    while i < DIGITS {
-        number += 1;
-        ok = ok & peg_within(count, number, m, pegs[i]);
-        i += 1;
-    }
-    ok
+    all_pass(count, pegs, |peg| peg <= m)
 }
 
 // The index of a disk's digit. Where all digits move (free) it is the disk's own, and a look into the array would be a wait.
@@ -118,7 +79,7 @@ fn index_at(free: bool, digits: &[u8], i: usize) -> usize
     requires { DigitAt free digits.now i }
     ensures { result + 1 ≡ get_or digits.now i 0 }
 {
-    if free { i } else { wide(digits[i]) - 1 }
+    if free { i } else { usize::from(digits[i]) - 1 }
 }
 
 // Odd radices: a disk is on the left two of the three pegs unless its digit is m - 1, and on the right two unless it is 0.
@@ -129,58 +90,51 @@ fn on_pair(turn: u8, m: u8, a: u8) -> bool
     if turn == 0 { a != m - 1 } else { a != 0 }
 }
 
-// The index of the smallest disk on the two pegs of the turn; where there is none, the number of disks. The disks' digits are
-// given by their numbers.
-fn first_on_pair(radices: &[u8], word: &[u8], free: bool, digits: &[u8], turn: u8) -> usize
+// The index of the smallest disk on the two pegs of the turn, if there is one. The disks' digits are given by their numbers.
+fn first_on_pair(radices: &[u8], word: &[u8], free: bool, digits: &[u8], turn: u8) -> Option<usize>
     requires { PairDisks radices.now word.now free digits.now }
-    ensures { found (length digits.now) result
+    ensures { found result
         ≡ smallest (length digits.now)
         (λ i. on_pair turn
         (side_peg (get_or radices.now (get_or digits.now i 0 - 1) 0)
         (get_or word.now (get_or digits.now i 0 - 1) 0))) }
 {
-    let n = digits.len();
-    let mut i = 0;
-    while i < n {
+    for i in 0..digits.len() {
         let at = index_at(free, digits, i);
         if on_pair(turn, radices[at], word[at]) {
-            return i;
+            return Some(i);
         }
-        i += 1;
     }
-    n
+    None
 }
 
-// The index of the smallest disk that is not on disk 1's peg; it is a top disk. Where there is none, the number of disks.
-fn first_elsewhere(pegs: &[u8]) -> usize
+// The index of the smallest disk that is not on disk 1's peg, if there is one; it is a top disk.
+fn first_elsewhere(pegs: &[u8]) -> Option<usize>
     requires { 0 < length pegs.now }
-    ensures { found (length pegs.now) result
+    ensures { found result
         ≡ smallest (length pegs.now)
         (λ i. not (eqb (get_or pegs.now i 0) (get_or pegs.now 0 0))) }
 {
-    let n = pegs.len();
     let first = pegs[0];
-    let mut i = 1;
-    while i < n {
+    for i in 1..pegs.len() {
         if pegs[i] != first {
-            return i;
+            return Some(i);
         }
-        i += 1;
     }
-    n
+    None
 }
 
 // The index of the disk that moves on a ring: disk 1 in its sweep, whose moves the turn counts, and then the smallest one
-// elsewhere; where there is none, the number of disks.
-fn first_on_ring(m: u8, sweep: u8, pegs: &[u8]) -> usize
+// elsewhere, if there is one.
+fn first_on_ring(m: u8, sweep: u8, pegs: &[u8]) -> Option<usize>
     requires { (0 < m) × (0 < length pegs.now) }
-    ensures { found (length pegs.now) result
+    ensures { found result
         ≡ cond (sweeping m sweep) (some 0)
         (smallest (length pegs.now)
         (λ i. not (eqb (get_or pegs.now i 0) (get_or pegs.now 0 0)))) }
 {
     if sweep < m - 1 {
-        return 0;
+        return Some(0);
     }
     first_elsewhere(pegs)
 }
@@ -239,56 +193,61 @@ fn move_digit(radices: &[u8], at: usize, word: &mut [u8], downs: &mut [bool]) ->
     digit::move_byte(at as u8 + 1, down)
 }
 
-// One call of a run, in lent arrays. (One search for both games, and one move, would take 1.5 times as long.)
-fn play(
+// What stays the same in a run: the radix that tells the game, the radices, how many digits there are, the numbers of those that
+// move, and how many those are. (An array and its count, as a state has them: its memory is fixed.)
+#[derive(Clone, Copy)]
+struct Game<'a> {
     m: u8,
-    radices: &[u8],
+    radices: &'a [u8],
     n: u8,
-    digits: &[u8],
+    digits: &'a [u8],
     count: u8,
-    word: &mut [u8],
-    turn: u8,
-    downs: &mut [bool],
-    pegs: &mut [u8],
-) -> Played
-    requires { Playing m (state_of radices.now n digits.now count word.old turn downs.old pegs.old) }
-    ensures { Called
-        (step_of
-        (state_of radices.now n digits.now count word.old turn downs.old
-        pegs.old))
-        result.byte
-        (state_of radices.now n digits.now count word.new result.turn downs.new
-        pegs.new) }
-{
-    let free = count == n;
-    let most = wide(count);
-    let odd = m % 2 != 0;
-    if odd {
-        let i = first_on_pair(radices, word, free, &digits[..most], turn);
-        if most <= i {
-            return Played {
-                byte: 0,
-                turn: turn,
-            };
+}
+
+impl<'a> Game<'a> {
+    // One call of a run, in lent arrays: the byte of its move and the turn after it, if it finds a disk. (One search for both
+    // games, and one move, would take 1.5 times as long.)
+    fn play(
+        self,
+        word: &mut [u8],
+        turn: u8,
+        downs: &mut [bool],
+        pegs: &mut [u8],
+    ) -> Option<(u8, u8)>
+        requires { Playing self.m
+            (state_of self.radices.now self.n self.digits.now self.count word.old turn downs.old
+            pegs.old) }
+        ensures { Called
+            (step_of
+            (state_of self.entry.radices.now self.entry.n self.entry.digits.now self.entry.count word.old turn downs.old
+            pegs.old))
+            (λ next. state_of self.entry.radices.now self.entry.n self.entry.digits.now self.entry.count word.new next downs.new
+            pegs.new)
+            turn
+            result }
+    {
+        let Game {
+            m,
+            radices,
+            n,
+            digits,
+            count,
+        } = self;
+        let free = count == n;
+        let most = usize::from(count);
+        let odd = m % 2 != 0;
+        if odd {
+            let i = first_on_pair(radices, word, free, &digits[..most], turn)?;
+            let at = index_at(free, digits, i);
+            return Some((move_digit(radices, at, word, downs), 1 - turn));
         }
+        let i = first_on_ring(m, turn, &pegs[..most])?;
+        pegs[i] = next_peg(m, i, pegs[i]);
         let at = index_at(free, digits, i);
-        return Played {
-            byte: move_digit(radices, at, word, downs),
-            turn: 1 - turn,
-        };
-    }
-    let i = first_on_ring(m, turn, &pegs[..most]);
-    if most <= i {
-        return Played {
-            byte: 0,
-            turn: turn,
-        };
-    }
-    pegs[i] = next_peg(m, i, pegs[i]);
-    let at = index_at(free, digits, i);
-    Played {
-        byte: move_digit(radices, at, word, downs),
-        turn: next_turn(false, m, turn),
+        Some((
+            move_digit(radices, at, word, downs),
+            next_turn(false, m, turn),
+        ))
     }
 }
 
@@ -298,9 +257,9 @@ fn fresh(radices: [u8; DIGITS], n: u8, moving: MovingDigits) -> Towers
     ensures { towers_as result ≡ fresh_on (fresh_with radices n (moving_as moving)) }
 {
     Towers {
-        radices: radices,
-        n: n,
-        moving: moving,
+        radices,
+        n,
+        moving,
         word: [0; DIGITS],
         turn: 0,
         downs: [false; DIGITS],
@@ -308,6 +267,7 @@ fn fresh(radices: [u8; DIGITS], n: u8, moving: MovingDigits) -> Towers
     }
 }
 
+// Methods take the arrays that they read into locals for speed: read from self, a call takes 1.3 times as long.
 impl Towers {
     // The state of no survey: every call on it gets 7.
     pub fn closed() -> Towers
@@ -320,16 +280,13 @@ impl Towers {
         fresh([0; DIGITS], 0, none)
     }
 
-    // Refused: the state that came, and the number. Accepted: the fresh state, whatever came.
-    pub fn open(self, radices: &[u8]) -> Opened
+    // Refused: the state that came, and why. Accepted: the fresh state, whatever came.
+    pub fn open(self, radices: &[u8]) -> (Towers, Result<(), Refusal>)
         ensures { opened_as result ≡ open_of (towers_as self) radices.now }
     {
         let counted = gray::size(radices);
-        let Counted::Size(_) = counted else {
-            return Opened {
-                towers: self,
-                answer: Opening::Refused(counted.number()),
-            };
+        let Ok(_) = counted else {
+            return (self, Err(counted.unwrap_err()));
         };
         let n = radices.len();
         let digits = digit::reversed(radices);
@@ -337,15 +294,9 @@ impl Towers {
         let towers = fresh(digits, n as u8, moving);
         let m = towers.last_radix();
         if !radices_play(towers.n, m, digits) {
-            return Opened {
-                towers: self,
-                answer: Opening::Refused(6),
-            };
+            return (self, Err(Refusal::Game));
         }
-        Opened {
-            towers: towers,
-            answer: Opening::Open,
-        }
+        (towers, Ok(()))
     }
 
     // The survey is within its limits, and the digits that move are its own.
@@ -355,12 +306,11 @@ impl Towers {
         if digit::MOST < self.n {
             return false;
         }
-        let n = wide(self.n);
+        let n = usize::from(self.n);
         let radices = self.radices;
-        let counted = gray::size(&radices[..n]);
-        let Counted::Size(_) = counted else {
+        if gray::size(&radices[..n]).is_err() {
             return false;
-        };
+        }
         let moving = self.moving;
         digit::moving_in_range(self.n, radices, moving)
     }
@@ -372,7 +322,7 @@ impl Towers {
         ensures { result ≡ last_radix (disks (towers_as self)) }
     {
         let moving = self.moving;
-        let count = wide(moving.count);
+        let count = usize::from(moving.count);
         if count == 0 {
             return 1;
         }
@@ -403,13 +353,13 @@ impl Towers {
         (notches & played) & ((self.turn < m) & pegs_within(moving.count, m, pegs))
     }
 
-    // The index of the disk that the call moves; where there is none, the number of disks.
-    fn choose(self) -> usize
+    // The index of the disk that the call moves, if there is one.
+    fn choose(self) -> Option<usize>
         requires { in_range (towers_as self) ≡ true }
-        ensures { found self.moving.count result ≡ chosen (towers_as self) }
+        ensures { found result ≡ chosen (towers_as self) }
     {
         let moving = self.moving;
-        let count = wide(moving.count);
+        let most = usize::from(moving.count);
         let m = self.last_radix();
         let odd = m % 2 != 0;
         if odd {
@@ -417,35 +367,28 @@ impl Towers {
             let word = self.word;
             let digits = moving.digits;
             let free = moving.count == self.n;
-            return first_on_pair(&radices, &word, free, &digits[..count], self.turn);
+            return first_on_pair(&radices, &word, free, &digits[..most], self.turn);
         }
         let pegs = self.pegs;
-        first_on_ring(m, self.turn, &pegs[..count])
+        first_on_ring(m, self.turn, &pegs[..most])
     }
 
     // One call: a disk is chosen and moves, and its digit with it.
-    pub fn step(self) -> Stepped
+    pub fn step(self) -> (Towers, Result<Stepping, Refusal>)
         ensures { stepped_as result ≡ step_of (towers_as self) }
     {
         if !self.in_range() {
-            return Stepped {
-                towers: self,
-                answer: Stepping::Refused(7),
-            };
+            return (self, Err(Refusal::State));
         }
-        let i = self.choose();
-        let moving = self.moving;
-        if wide(moving.count) <= i {
-            return Stepped {
-                towers: self,
-                answer: Stepping::End,
-            };
-        }
+        let chosen = self.choose();
+        let Some(i) = chosen else {
+            return (self, Ok(Stepping::End));
+        };
         self.advance(i)
     }
 
     // The move of the disk at index i, and of its digit.
-    fn advance(self, i: usize) -> Stepped
+    fn advance(self, i: usize) -> (Towers, Result<Stepping, Refusal>)
         requires { (in_range (towers_as self) ≡ true) × (i < self.moving.count) }
         ensures { stepped_as result ≡ move_of (towers_as self) i }
     {
@@ -467,42 +410,31 @@ impl Towers {
         downs[at] = to.down;
         pegs[i] = if odd { peg } else { next_peg(m, i, peg) };
         let towers = Towers {
-            radices: radices,
-            n: self.n,
-            moving: moving,
-            word: word,
+            word,
             turn: next_turn(odd, m, self.turn),
-            downs: downs,
-            pegs: pegs,
+            downs,
+            pegs,
+            ..self
         };
-        Stepped {
-            towers: towers,
-            answer: Stepping::Moved(k, down, to.digit),
-        }
+        (towers, Ok(Stepping::Moved(k, down, to.digit)))
     }
 
     // At most t calls, up to the first that does not move: one byte a move in `out`, which has to hold t bytes.
-    pub fn run(self, t: u64, out: &mut [u8]) -> Ran
+    pub fn run(self, t: u64, out: &mut [u8]) -> (Towers, Result<Running, Refusal>)
         ensures { ran_as result out.new ≡ run_of (towers_as self) t out.old }
     {
         if !self.in_range() {
-            return Ran {
-                towers: self,
-                answer: Running::Refused(7),
-            };
+            return (self, Err(Refusal::State));
         }
         if (out.len() as u64) < t {
-            return Ran {
-                towers: self,
-                answer: Running::Refused(9),
-            };
+            return (self, Err(Refusal::Output));
         }
         let m = self.last_radix();
         self.calls(m, t as usize, out)
     }
 
     // The calls of a run: the range rule is kept by each, so that it is not tested again, and the arrays are local ones.
-    fn calls(self, m: u8, t: usize, out: &mut [u8]) -> Ran
+    fn calls(self, m: u8, t: usize, out: &mut [u8]) -> (Towers, Result<Running, Refusal>)
         requires { Playing m (towers_as self) × (t ≤ length out.old) }
         ensures { ran_as result out.new ≡ run_of (towers_as self) t out.old }
     {
@@ -513,58 +445,35 @@ impl Towers {
         let mut turn = self.turn;
         let mut downs = self.downs;
         let mut pegs = self.pegs;
-        let mut k = 0;
-        while k < t {
-            let made = play(
-                m,
-                &radices,
-                self.n,
-                &digits,
-                moving.count,
-                &mut word,
-                turn,
-                &mut downs,
-                &mut pegs,
-            );
-            turn = made.turn;
-            if made.byte == 0 {
-                let towers = self.settled(word, turn, downs, pegs);
-                return Ran {
-                    towers: towers,
-                    answer: Running::Ended(k as u64),
-                };
-            }
-            out[k] = made.byte;
-            k += 1;
-        }
-        let towers = self.settled(word, turn, downs, pegs);
-        Ran {
-            towers: towers,
-            answer: Running::Made(k as u64),
-        }
-    }
-
-    // The state after calls: the survey as it came, and what the calls have left of the rest.
-    fn settled(
-        self,
-        word: [u8; DIGITS],
-        turn: u8,
-        downs: [bool; DIGITS],
-        pegs: [u8; DIGITS],
-    ) -> Towers
-        ensures { towers_as result
-            ≡ state_of self.radices self.n self.moving.digits self.moving.count word turn downs pegs }
-    {
-        let radices = self.radices;
-        let moving = self.moving;
-        Towers {
-            radices: radices,
+        let game = Game {
+            m,
+            radices: &radices,
             n: self.n,
-            moving: moving,
-            word: word,
-            turn: turn,
-            downs: downs,
-            pegs: pegs,
+            digits: &digits,
+            count: moving.count,
+        };
+        for k in 0..t {
+            let made = game.play(&mut word, turn, &mut downs, &mut pegs);
+            let Some((byte, next)) = made else {
+                let towers = Towers {
+                    word,
+                    turn,
+                    downs,
+                    pegs,
+                    ..self
+                };
+                return (towers, Ok(Running::Ended(k as u64)));
+            };
+            out[k] = byte;
+            turn = next;
         }
+        let towers = Towers {
+            word,
+            turn,
+            downs,
+            pegs,
+            ..self
+        };
+        (towers, Ok(Running::Made(t as u64)))
     }
 }

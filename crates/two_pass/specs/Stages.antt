@@ -1,17 +1,13 @@
 -- What the stages of the rank answer: definitions that only this crate's private functions cite.
-use Rattle.std.specs.Prelude.{ℕ, ◌^◌, ◌≤◌, ◌≡◌, Bool, true, cond, List}
+use Rattle.std.specs.Prelude.{ℕ, ◌^◌, ◌≤◌, ◌≡◌, Bool, true, cond, List, Result, Ok, Err}
 use Rattle.gray_theory.specs.Radices.{digits, size, all_from}
 use Rattle.gray_theory.specs.Words.{is_word}
-use Rattle.two_pass.specs.declared.Checked.{Checked}
-use Rattle.two_pass.specs.declared.Checked.TheVariants.{Fine, Refused}
+use Rattle.gray.specs.declared.Refusal.{Refusal}
+use Rattle.gray.specs.declared.Refusal.TheVariants.{Word}
 
 -- refusal 8 of a setting that is none
-abbrev pub checked_as : Bool → Checked
-checked_as isOne = cond isOne Fine (Refused 8)
-
-abbrev pub check_number : Checked → ℕ
-check_number Fine = 0
-check_number (Refused k) = k
+abbrev pub checked_as : Bool → Result Unit Refusal
+checked_as isOne = cond isOne (Ok tt) (Err Word)
 
 -- radices and a word that have passed every check
 pub record Rankable (radices word : List ℕ) : Type 0 where

@@ -7,39 +7,14 @@ ghost use Rattle.std.specs.Prelude.{◌≡◌, ◌<◌, length};
 ghost use Rattle.gray_theory.specs.Radices.{digits};
 ghost use Rattle.gray_theory.specs.Words.{reflect as reflected, is_word, rank as rank_of};
 ghost use Rattle.gray_theory.specs.Calls.{rank_call};
-ghost use Rattle.gray.specs.Enums.{ranked_as};
+ghost use Rattle.gray.specs.Enums.{answer_as};
 ghost use Rattle.capi.specs.Encoding.{encoded};
-ghost use Rattle.two_pass.specs.Stages.{checked_as, check_number, Rankable};
+ghost use Rattle.two_pass.specs.Stages.{checked_as, Rankable};
 
-use gray::{Counted, Ranked};
+use gray::Refusal;
 
-// Whether a word passes its check.
-#[derive(Clone, Copy)]
-enum Checked {
-    Fine,
-    Refused(u8),
-}
-
-impl Checked {
-    // The refusal's number, to pass on; 0 where there is none.
-    fn number(self) -> u8
-        ensures { result ≡ check_number self }
-    {
-        match self {
-            Checked::Fine => 0,
-            Checked::Refused(k) => k,
-        }
-    }
-}
-
-// The bound spares callers a fact about the byte that they read.
-fn wide(x: u8) -> u64
-    ensures { (result ≡ x) × (result < 256) }
-{
-    x as u64
-}
-
-// Document 01's b: a digit as it is after a rank that is even, from the other end after one that is odd.
+// Document 01's b: a digit as it is after a rank that is even, from the other end after one that is odd. (Private in `gray`; this
+// crate is the rank as it was, whole, so it has its own.)
 fn reflect(m: u64, p: u64, a: u64) -> u64
     requires { a < m }
     ensures { result ≡ reflected m p a }
@@ -53,25 +28,23 @@ fn all_below(radices: &[u8], word: &[u8]) -> bool
     ensures { result ≡ is_word (digits radices.now) (digits word.now) }
 {
     let mut ok = true;
-    let mut i = 0;
-    while i < radices.len() {
+    for i in 0..radices.len() {
         ok = (word[i] < radices[i]) & ok;
-        i += 1;
     }
     ok
 }
 
 // Refusal 8 of a word (a setting).
-fn check_word(radices: &[u8], word: &[u8]) -> Checked
+fn check_word(radices: &[u8], word: &[u8]) -> Result<(), Refusal>
     ensures { result ≡ checked_as (is_word (digits radices.now) (digits word.now)) }
 {
     if word.len() != radices.len() {
-        return Checked::Refused(8);
+        return Err(Refusal::Word);
     }
     if all_below(radices, word) {
-        Checked::Fine
+        Ok(())
     } else {
-        Checked::Refused(8)
+        Err(Refusal::Word)
     }
 }
 
@@ -81,35 +54,33 @@ fn rank_from(radices: &[u8], word: &[u8]) -> u64
     ensures { result ≡ rank_of (digits radices.now) (digits word.now) }
 {
     let mut p: u64 = 0;
-    let mut i = 0;
-    while i < radices.len() {
-        let m = wide(radices[i]);
-        let a = wide(word[i]);
+    for i in 0..radices.len() {
+        let m = u64::from(radices[i]);
+        let a = u64::from(word[i]);
         let b = reflect(m, p, a);
         p = p * m + b;
-        i += 1;
     }
     p
 }
 
 // The rank of a word: first it is tested, then ranked.
-pub fn rank(radices: &[u8], word: &[u8]) -> Ranked
-    ensures { ranked_as result ≡ rank_call radices.now word.now }
+pub fn rank(radices: &[u8], word: &[u8]) -> Result<u64, Refusal>
+    ensures { answer_as result ≡ rank_call radices.now word.now }
 {
     let counted = gray::size(radices);
-    let Counted::Size(_) = counted else {
-        return Ranked::Refused(counted.number());
+    let Ok(_) = counted else {
+        return counted;
     };
     let tested = check_word(radices, word);
-    let Checked::Fine = tested else {
-        return Ranked::Refused(tested.number());
+    let Ok(()) = tested else {
+        return Err(tested.unwrap_err());
     };
-    Ranked::Rank(rank_from(radices, word))
+    Ok(rank_from(radices, word))
 }
 
 // The same for programs outside that compare it with `gray_rank`, in the same encoding. `two_pass_c` exports it.
 pub fn gray_rank_in_two_passes(radices: &[u8], word: &[u8]) -> u64
     ensures { result ≡ encoded (rank_call radices.now word.now) }
 {
-    capi::of_ranked(rank(radices, word))
+    capi::encode(rank(radices, word))
 }

@@ -9,43 +9,17 @@ use reader::{Found, Reader};
 use std::io;
 use std::io::{Read, Write};
 
-// The reader after a part of the input, and whether there may be more to read.
-#[derive(Clone, Copy)]
-struct Progress {
-    reader: Reader,
-    more: bool,
-}
-
-// One read, of what there is: a line that is typed is answered at its newline.
-fn read_part(input: &mut impl Read, reader: Reader) -> io::Result<Progress> {
-    let mut bytes = [0; 4096];
-    let n = input.read(&mut bytes)?;
-    let next = reader.read(&bytes[..n]);
-    let found = next.found();
-    let Found::More = found else {
-        return Ok(Progress {
-            reader: next,
-            more: false,
-        });
-    };
-    Ok(Progress {
-        reader: next,
-        more: 0 < n,
-    })
-}
-
-// The input up to the newline, to a byte that makes it no line of counts, or to its end. Nothing says that an input ends, so
-// the number of parts is bounded.
+// The input up to the newline, to a byte that makes it no line of counts, or to its end. One read takes what there is: a line that
+// is typed is answered at its newline. Nothing says that an input ends, so the number of parts is bounded.
 fn read_line(input: &mut impl Read) -> io::Result<Reader> {
     let mut reader = Reader::fresh();
-    let mut parts = u64::MAX;
-    while 0 < parts {
-        let progress = read_part(input, reader)?;
-        reader = progress.reader;
-        if !progress.more {
-            return Ok(reader);
+    let mut bytes = [0; 4096];
+    for _ in 0..u64::MAX {
+        let n = input.read(&mut bytes)?;
+        reader = reader.read(&bytes[..n]);
+        if (n == 0) | (reader.found() != Found::More) {
+            break;
         }
-        parts -= 1;
     }
     Ok(reader)
 }
@@ -53,15 +27,13 @@ fn read_line(input: &mut impl Read) -> io::Result<Reader> {
 // Page after page, up to the last one: `written` of pages_theory. There are 4,098 at the most.
 fn write_pages(out: &mut impl Write, begun: Printing, page: &mut [u8]) -> io::Result<()> {
     let mut printing = begun;
-    let mut pages = u64::MAX;
-    while 0 < pages {
+    for _ in 0..u64::MAX {
         let filled = printing.fill(page);
         out.write_all(&page[..filled.used])?;
         if filled.last {
-            return Ok(());
+            break;
         }
         printing = filled.rest;
-        pages -= 1;
     }
     Ok(())
 }

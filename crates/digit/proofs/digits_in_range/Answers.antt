@@ -2,23 +2,23 @@
 use mathlib.Core.Path.{◌≡◌, refl}
 use mathlib.Core.Bool.{false}
 use lib.ListN.{length, get_or}
-use native.Mathlib.Omega.{arith}
 use borrow.Author.Rules.{rules}
+use native.Mathlib.Omega.{arith}
 use Rattle.gray_theory.specs.Directions.{digit_in_range}
 use Rattle.gray_theory.proofs.DigitRanges.{tested_none}
 use Rattle.gray_theory.proofs.Gathers.{gathered_more, gathered}
 use Rattle.digit.proofs.digits_in_range.Goals as goal
 
 pub loop-i-init : goal.loop-i-init
-loop-i-init c = (omega arith, refl, tested_none _)
+loop-i-init c = (refl, tested_none _)
 
 pub loop-i-preserved : goal.loop-i-preserved
 loop-i-preserved c =
     let a = c.args in
-    (omega arith, omega arith, gathered_more a.n (λ x j. digit_in_range (get_or a.radices j 0) (get_or a.word j 0) (get_or a.downs j false)) _ _ _ _ c.loop-i.invariant.1 c.loop-i.invariant.2 c.passes-ok.ensures)
+    (omega arith, gathered_more a.n (λ x j. digit_in_range (get_or a.radices j 0) (get_or a.word j 0) (get_or a.downs j false)) _ _ _ _ c.loop-i.invariant.0 c.loop-i.invariant.1 c.passes-ok.ensures)
 
 pub returns : goal.returns
 returns c =
     let a = c.args in
     let long : length a.radices ≡ 48 = search rules in
-    gathered a.n a.radices (λ x j. digit_in_range (get_or a.radices j 0) (get_or a.word j 0) (get_or a.downs j false)) _ _ long c.loop-i.invariant.0 c.loop-i-test.false c.loop-i.invariant.2
+    gathered a.n a.radices (λ x j. digit_in_range (get_or a.radices j 0) (get_or a.word j 0) (get_or a.downs j false)) _ c.loop-i.i long (omega arith) c.loop-i-test.false c.loop-i.invariant.1

@@ -1,5 +1,5 @@
 -- `digit::digits_in_range` meets its contract: after i turns the first i places are tested. Assumes nothing.
-use Prim.Native.Nat.{◌+◌, ◌-◌, ◌≤◌}
+use Prim.Native.Nat.{◌+◌}
 use mathlib.Core.Path.{◌≡◌}
 use mathlib.Core.Bool.{false, ◌||◌}
 use lib.Dec.{ltb}
@@ -9,7 +9,4 @@ use Rattle.digit.proofs.digits_in_range.Given as goal
 
 abbrev pub invariant-loop-i : goal.invariant-loop-i
 invariant-loop-i l =
-    (l.i ≤ 48) × (l.number ≡ l.i) × (l.ok ≡ all_below l.i (λ j. ltb l.n (j + 1) || digit_in_range (get_or l.radices j 0) (get_or l.word j 0) (get_or l.downs j false)))
-
-abbrev pub decreases-loop-i : goal.decreases-loop-i
-decreases-loop-i l = 48 - l.i
+    (l.number ≡ l.i) × (l.ok ≡ all_below l.i (λ j. ltb l.n (j + 1) || digit_in_range (get_or l.radices j 0) (get_or l.word j 0) (get_or l.downs j false)))

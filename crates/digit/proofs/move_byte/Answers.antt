@@ -3,4 +3,4 @@ use Rattle.digit.proofs.Laws.{packed}
 use Rattle.digit.proofs.move_byte.Goals as goal
 
 pub returns : goal.returns
-returns c = packed c.args.digit c.args.down
+returns c = rw c.from.ensures (packed c.args.digit c.args.down)

@@ -1,44 +1,45 @@
 -- `digit::moving` meets its contract: after i turns the numbers of those of the first i digits that move stand at the start. Assumes
 -- nothing.
-use Prim.Native.Nat.{◌+◌, ◌<◌}
-use mathlib.Core.Path.{refl, ap, ap₂, ◌∙◌}
+use Prim.Native.Nat.{ℕ, ◌+◌, min}
 use native.Mathlib.Omega.{arith}
-use lib.ListN.{length, take, get_or}
-use Rattle.gray_theory.specs.Locks.{moving, moving_digits}
-use Rattle.digit.proofs.Laws.{goes_on, ends, gather_room, gather_more, moving_few, moving_next, first_48}
+use mathlib.Core.Path.{◌≡◌, refl, ap, ◌∙◌}
+use lib.ListN.{length, take, set}
+use Rattle.std.proofs.lemmas.List.{take_min}
+use Rattle.gray_theory.specs.Locks.{moving}
+use Rattle.digit.proofs.Laws.{moving_few, gathers, gathers_none}
 use Rattle.digit.proofs.moving.Goals as goal
-use Rattle.digit.proofs.moving.Goals.{In-loop-i}
-
--- in the loop there is a digit left, and a place for it
-on : (c : In-loop-i)
-    → (c.loop-i.i < length c.args.radices.now) × (c.loop-i.i < 48)
-on c =
-    let (digit, place) = goes_on c.loop-i.i (length c.args.radices.now) _ c.loop-i-test.true in
-    (digit, omega arith)
+use Rattle.digit.proofs.moving.Goals.{then-unlocked, else-unlocked}
 
 pub loop-i-init : goal.loop-i-init
 unfolding moving
-loop-i-init c = (omega arith, omega arith, refl, refl)
+loop-i-init c = (refl, refl)
 
-pub joined-count-requires : goal.joined-count-requires
-joined-count-requires c =
-    let l = c.args.radices.now in
-    let i = c.loop-i.i in
-    let (digit, place) = on (goal.at.joined-count-requires c).In-loop-i in
-    gather_room (moving (take i l)) (moving (take (i + 1) l)) c.loop-i.digits c.loop-i.count i (get_or l i 0) (i + 1) place (moving_few l i digit) (moving_next l i digit) c.loop-i.invariant.2 c.loop-i.invariant.3
+pub bounds-digits-from : goal.bounds-digits-from
+bounds-digits-from c = let few = moving_few c.args.radices.now c.loop-i.i (omega arith) in omega arith
+
+pub overflow_add-count : goal.overflow_add-count
+overflow_add-count c =
+    let few = moving_few c.args.radices.now c.loop-i.i (omega arith) in
+    record { fits = omega arith }
 
 pub loop-i-preserved : goal.loop-i-preserved
 loop-i-preserved c =
     let l = c.args.radices.now in
     let i = c.loop-i.i in
-    let (digit, place) = on (goal.at.loop-i-preserved c).In-loop-i in
-    let more =
-    gather_more (moving (take i l)) (moving (take (i + 1) l)) c.loop-i.digits c.loop-i.count i (get_or l i 0) (i + 1) place (moving_few l i digit) (moving_next l i digit) c.loop-i.invariant.2 c.loop-i.invariant.3 in
-    (omega arith, omega arith, c.joined-count.ensures.0 ∙ more.0, c.joined-count.ensures.1 ∙ more.1)
+    let (many, stand) = c.loop-i.invariant in
+    elim c.if-unlocked.branch [
+      | then-unlocked w ↦
+          let (more, longer) = gathers l i (omega arith) c.loop-i.count c.loop-i.digits many stand w.if-unlocked.true (omega arith) in
+          (w.count-is ∙ more, w.digits-is ∙ ap (λ (k : ℕ). set c.loop-i.digits k (i + 1)) w.from.ensures ∙ longer)
+      | else-unlocked w ↦
+          let (same, stays) = gathers_none l i (omega arith) c.loop-i.count c.loop-i.digits many stand w.if-unlocked.false in
+          (w.count-is ∙ same, w.digits-is ∙ stays)
+    ]
 
 pub returns : goal.returns
 returns c =
     let l = c.args.radices.now in
-    let i = c.loop-i.i in
-    let whole = first_48 l i c.loop-i.invariant.0 c.loop-i.invariant.1 (λ h. ends i (length l) 48 c.loop-i-test.false h) in
-    ap₂ (λ d k. record { digits = d; count = k }) c.loop-i.invariant.3 c.loop-i.invariant.2 ∙ ap moving_digits whole
+    let (many, stand) = c.loop-i.invariant in
+    let last : c.loop-i.i ≡ min 48 (length l) = omega arith in
+    let all : take c.loop-i.i l ≡ take 48 l = ap (λ (k : ℕ). take k l) last ∙ take_min 48 l in
+    rw (stand, many, all)

@@ -14,6 +14,3 @@ invariant-loop-i l =
     (l.i ≤ length l.radices)
     × (length l.out ≡ length l.initial.out)
     × (bytes (word_at (digits (take l.i l.radices)) l.q) ++ drop l.i l.out ≡ put_word l.radices l.rank l.initial.out)
-
-abbrev pub decreases-loop-i : goal.decreases-loop-i
-decreases-loop-i l = l.i

@@ -22,10 +22,10 @@ pub returns-then-total-eq0 : goal.returns-then-total-eq0
 returns-then-total-eq0 c =
     let told = c in
     let made = told in
-    zero_refused _ made.if-n.false _ made.product_of-whole.ensures _ told.in-Within.is c.if-total-eq0.true
+    zero_refused _ made.if-n.false _ made.product_of-whole.ensures _ told.in-Some.is c.if-total-eq0.true
 
 pub returns : goal.returns
 returns c =
     let told = c in
     let made = told in
-    size_given _ made.if-n.false _ made.product_of-whole.ensures _ told.in-Within.is c.if-total-eq0.false
+    size_given _ made.if-n.false _ made.product_of-whole.ensures _ told.in-Some.is c.if-total-eq0.false

@@ -9,9 +9,9 @@ loop-i-init c = tabled_none _ _ refl
 
 pub overflow_mul-q : goal.overflow_mul-q
 overflow_mul-q c =
-    let short = tabled_short _ _ _ _ _ c.loop-i.invariant c.loop-i-test.true c.requires.1 c.wide-q.ensures.0 in
+    let short = tabled_short _ _ _ _ _ c.loop-i.invariant c.loop-i-test.true c.requires.1 c.from-q.ensures in
     omega arith
 
 pub loop-i-preserved : goal.loop-i-preserved
 loop-i-preserved c =
-    tabled_more _ _ _ _ _ c.loop-i.invariant c.loop-i-test.true c.requires.0 c.wide-q.ensures.0
+    tabled_more _ _ _ _ _ c.loop-i.invariant c.loop-i-test.true c.requires.0 c.from-q.ensures

@@ -1,66 +1,65 @@
 -- `lister::square` meets its contract: it is a lister of the last two digits. The invariant of its loop is `Along` of a word
 -- that is stored nowhere, with digit a in its place, and `Turns` says what a turn does to it. Assumes nothing.
-use Prim.Native.Nat.{◌-◌, ◌≤◌, ◌<◌}
+use Prim.Native.Nat.{◌-◌, ◌<◌}
 use native.Mathlib.Omega.{arith}
-use mathlib.Core.Path.{refl}
+use mathlib.Core.Path.{refl, sym, ap, ◌∙◌}
 use lib.ListN.{length, get_or, set}
-use Rattle.lister.proofs.Blocks.{along_none}
-use Rattle.lister.proofs.Turns.{Turn, goes_on, ends, row_may, left_square, after_none, after-row}
+use borrow.Author.Rules.{rules}
+use Rattle.lister.specs.Outputs.{notch_after, Reached}
+use Rattle.lister.proofs.Blocks.{along_none, along_reached, along_after, along_left}
+use Rattle.lister.proofs.Turns.{listed_as, past_words, listed_past, reached_row, listed_row, left_square}
 use Rattle.lister.proofs.square.Goals as goal
-use Rattle.lister.proofs.square.Goals.{At-loop-u, In-loop-u, then-w-q, else-w-q}
+use Rattle.lister.proofs.square.Goals.{At-loop-u, Else-w-eq0, then-w-q, else-w-q}
 
-three : (c : At-loop-u) → 3 ≤ length c.args.radices.now
-three c = c.requires.0
+more : (c : At-loop-u) → length c.args.radices.now - 2 < length c.args.radices.now
+more c = omega (arith, c.requires.0)
 
--- what is known where a turn of the loop begins
-turn : (c : At-loop-u) →
+-- the window has words left
+reached : (c : Else-w-eq0) →
     let a = c.args in
-    let whole = set a.word.now (length a.radices.now - 3) a.a in
-    Turn a.down a.radices.now a.sizes.now (length a.radices.now - 2) a.skip a.left a.start
-    whole a.out.now c.wide-m.result (get_or a.sizes.now (length a.radices.now - 2) 0)
-    whole c.loop-u.out c.loop-u.u c.loop-u.w.skip c.loop-u.w.left c.loop-u.w.at
-turn c =
-    let radix = c.wide-m.ensures in
-    let more : length c.args.radices.now - 2 < length c.args.radices.now = omega (arith, three c) in
-    record {
-      reached = c.requires.1;
-      more = more;
-      radix = radix.0;
-      byte = radix.1;
-      block = c.requires.1.sized (length c.args.radices.now - 2) more;
-      along = c.loop-u.invariant;
-    }
-
--- the turn has a notch, and the window words
-going : (c : In-loop-u) → (c.loop-u.u < c.wide-m.result) × (0 < c.loop-u.w.left)
-going c = goes_on _ _ _ c.loop-u-test.true
+    Reached a.radices.now a.sizes.now (set a.word.now (length a.radices.now - 3) a.a) (length a.radices.now - 2)
+    c.loop-u.w.skip c.loop-u.w.left c.loop-u.out c.loop-u.w.at
+reached c = along_reached c.args.down (omega (arith, c.requires.0)) c.requires.1 c.loop-u.invariant (omega (arith, c.if-w-eq0.false))
 
 pub loop-u-init : goal.loop-u-init
 loop-u-init c =
-    along_none _ _ _ _ _ _ _ _ _ c.requires.1 (omega (arith, c.requires.0))
+    along_none c.args.down (omega (arith, c.requires.0)) c.requires.1
 
 pub row-requires : goal.row-requires
 row-requires c =
-    let last = c.wide-last.ensures in
-    row_may _ _ (three (goal.at.row-requires c).At-loop-u) (turn (goal.at.row-requires c).At-loop-u) _
-    last.0 c.if-w-q.true last.1
+    let byte : c.from-last.result < 256 = search rules in
+    reached_row c.args.word.now c.args.a c.requires.0 (reached (goal.at.row-requires c).Else-w-eq0) c.from-last.ensures c.if-w-q.true byte
 
 pub loop-u-preserved : goal.loop-u-preserved
 loop-u-preserved c =
-    let (notch, some) = going (goal.at.loop-u-preserved c).In-loop-u in
-    let moved = c.past-w.ensures in
+    let d = c.args.down in
+    let m = get_or c.args.radices.now (length c.args.radices.now - 2) 0 in
+    let going : c.loop-u.u < m = omega (arith, c.loop-u-test.true, c.from-m.ensures) in
+    let below = more (goal.at.loop-u-preserved c).At-loop-u in
+    let there = reached (goal.at.loop-u-preserved c).Else-w-eq0 in
+    let past = past_words below there _ _ _ _ c.past-w.ensures in
     elim c.if-w-q.branch [
       | then-w-q w ↦
-          after-row _ _ (three (goal.at.loop-u-preserved c).At-loop-u) (turn (goal.at.loop-u-preserved c).At-loop-u) _
-          c.wide-last.ensures.0 _ _ _ _ notch moved _ _ w.if-w-q.true some w.notch-b.ensures w.turn-downward.ensures
-          _
-          w.row.ensures
-          w.row.auto.out
-          w.out-is
+          along_after d below c.requires.1 c.loop-u.invariant going
+          (w.notch-b.ensures ∙ ap (λ m. notch_after d m c.loop-u.u) c.from-m.ensures)
+          past
+          (listed_as (sym w.turn-downward.ensures)
+          (listed_row c.args.word.now c.args.a c.requires.0 there c.from-last.ensures _ w.row.ensures) refl w.out-is)
+          (ap length w.out-is ∙ w.row.auto.out)
       | else-w-q w ↦
-          after_none (turn (goal.at.loop-u-preserved c).At-loop-u) _ _ _ _ _ notch moved w.if-w-q.false refl w.out-is
+          along_after d below c.requires.1 c.loop-u.invariant going refl past
+          (listed_as refl (listed_past below there _ _ w.if-w-q.false) refl w.out-is)
+          (ap length w.out-is)
     ]
 
-pub returns : goal.returns
-returns c =
-    left_square _ _ (three (goal.at.returns c).At-loop-u) (turn (goal.at.returns c).At-loop-u) (ends _ _ _ c.loop-u-test.false)
+pub returns-after-loop-u : goal.returns-after-loop-u
+returns-after-loop-u c =
+    left_square c.args.word.now c.args.a c.requires.0 c.requires.1
+    (along_left c.args.down (more (goal.at.returns-after-loop-u c).At-loop-u) c.requires.1 c.loop-u.invariant
+    (λ h some. omega (arith, c.loop-u-test.false, c.from-m.ensures)))
+
+pub returns-then-w-eq0 : goal.returns-then-w-eq0
+returns-then-w-eq0 c =
+    left_square c.args.word.now c.args.a c.requires.0 c.requires.1
+    (along_left c.args.down (more (goal.at.returns-then-w-eq0 c).At-loop-u) c.requires.1 c.loop-u.invariant
+    (λ h some. omega (arith, c.if-w-eq0.true)))

@@ -8,7 +8,4 @@ use Rattle.lister.proofs.square.Given as goal
 abbrev pub invariant-loop-u : goal.invariant-loop-u
 invariant-loop-u l =
     let whole = set l.word (length l.radices - 3) l.a in
-    Along l.down l.radices l.i l.skip l.left l.start whole l.initial.out whole l.out l.u l.w.skip l.w.left l.w.at
-
-abbrev pub decreases-loop-u : goal.decreases-loop-u
-decreases-loop-u l = l.m - l.u
+    Along l.down l.radices l.i l.initial.w.skip l.initial.w.left l.initial.w.at whole l.initial.out whole l.out l.u l.w.skip l.w.left l.w.at

@@ -13,8 +13,8 @@ pub returns : goal.returns
 unfolding printing_of
 returns c =
     let radices = c.args.radices.now in
-    let walk = ap (λ (h : Handed Walk Unit). h.state) c.open-opened.ensures
+    let walk = ap (λ (h : Handed Walk Unit). h.state) c.open.ensures
     ∙ ap₂ (λ w k. (open_of w radices k).state) c.closed.ensures
     (c.half.ensures ∙ ap (λ (v : MovingDigits). half_of v.count) c.moving-moving.ensures)
     ∙ counted_among_48 radices in
-    ap₂ (λ (l : Line) (w : Walk). record { line = l; walk = w }) c.survey_line-line.ensures walk
+    ap₂ (λ (l : Line) (w : Walk). record { line = l; walk = w }) c.survey_line.ensures walk

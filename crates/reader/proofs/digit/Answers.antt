@@ -1,13 +1,18 @@
 -- `reader::digit` meets its contract: below, above and within the digits. Assumes nothing.
-use mathlib.Core.Path.{sym}
-use Rattle.reader.proofs.Numbers.{digit_below, digit_above, digit_within}
+use Rattle.std.proofs.Common.{arith}
+use Rattle.std.proofs.lemmas.Grind.{common_steps}
+use Rattle.std.proofs.lemmas.Bool.Decides.{nat_tests}
+use Rattle.reader.specs.Stages.{digit_at}
 use Rattle.reader.proofs.digit.Goals as goal
 
-pub returns-then-byte-lt48 : goal.returns-then-byte-lt48
-returns-then-byte-lt48 c = sym (digit_below c.args.byte c.if-byte-lt48.true).1
+pub returns-in-48-to-57 : goal.returns-in-48-to-57
+unfolding digit_at
+returns-in-48-to-57 c = grind (arith, common_steps, nat_tests)
 
-pub returns-then-byte-gt57 : goal.returns-then-byte-gt57
-returns-then-byte-gt57 c = sym (digit_above c.args.byte c.if-byte-lt48.false c.if-byte-gt57.true).1
+pub returns-in_default : goal.returns-in_default
+unfolding digit_at
+returns-in_default c = grind (arith, common_steps, nat_tests)
 
-pub returns : goal.returns
-returns c = sym (digit_within c.args.byte c.if-byte-lt48.false c.if-byte-gt57.false).1
+pub returns-in_default-2 : goal.returns-in_default-2
+unfolding digit_at
+returns-in_default-2 c = grind (arith, common_steps, nat_tests)

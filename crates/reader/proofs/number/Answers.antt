@@ -1,61 +1,52 @@
 -- `reader::number` meets its contract: what all bytes say is what those from i on say behind the value of the first i. Assumes
 -- nothing.
-use Prim.Native.Nat.{ℕ, ◌+◌, ◌*◌, ◌<◌}
-use mathlib.Core.Path.{◌≡◌, sym, ap, ◌∙◌}
-use mathlib.Core.List.{List, ◌∷◌}
-use native.Mathlib.Numerals.{add-one}
-use native.Mathlib.Omega.{arith}
-use borrow.Author.Rules.{rules}
-use lib.ListN.{length, get_or, drop, drop_of_length-le}
-use lib.Seq.{drop-cons}
-use Rattle.reader.specs.Parsing.{number_of}
-use Rattle.reader.proofs.Numbers.{number_from, none_read, begun, ended, joined, other, over, a_digit, no_digit}
+use mathlib.Core.Path.{sym, ap, ◌∙◌}
+use Prim.Native.Nat.{◌+◌, ◌*◌, ◌^◌, ◌<◌}
+use Rattle.std.proofs.Common.{arith, rules}
+use lib.ListN.{drop_of_length-le}
+use Rattle.reader.proofs.Numbers.{number_from, none_read, begun, ended, unread, turn, too_large}
 use Rattle.reader.proofs.number.Goals as goal
-use Rattle.reader.proofs.number.Goals.{Else-d-gt9}
 
--- the next byte in front of the rest
-next : (bytes : List ℕ) (v i : ℕ) → i < length bytes → number_of bytes ≡ number_from v (drop i bytes)
-    → number_of bytes ≡ number_from v (get_or bytes i 0 ∷ drop (i + 1) bytes)
-next bytes v i h e = rw add-one (e ∙ ap (number_from v) (drop-cons bytes i 0 h))
+pub returns-then-is_empty : goal.returns-then-is_empty
+returns-then-is_empty c = sym (none_read c.args.bytes.now (search rules))
 
--- the digit joined to the value
-turn : (c : Else-d-gt9)
-    →
-    let bytes = c.args.bytes.now in
-    number_of bytes ≡ number_from (c.loop-i.value * 10 + c.digit-d.result) (drop (c.loop-i.i + 1) bytes)
-turn c =
-    let bytes = c.args.bytes.now in
-    let b = get_or bytes c.loop-i.i 0 in
-    let (is, d) = a_digit b c.digit-d.result c.digit-d.ensures c.if-d-gt9.false in
-    rw d
-    (next bytes c.loop-i.value c.loop-i.i c.loop-i-test.true c.loop-i.invariant.2
-    ∙ joined c.loop-i.value b _ is)
+pub loop-byte-init : goal.loop-byte-init
+loop-byte-init c = (omega arith, begun c.args.bytes.now (search rules))
 
-pub returns-then-bytes-eq0 : goal.returns-then-bytes-eq0
-returns-then-bytes-eq0 c = sym (none_read c.args.bytes.now c.if-bytes-eq0.true)
+pub returns-in_err-d : goal.returns-in_err-d
+returns-in_err-d c =
+    c.from_residual.ensures
+    ∙ unread c.args.bytes.now _ c.loop-byte.byte-index c.loop-byte-test.true c.loop-byte.invariant.1 (sym c.digit.ensures ∙ c.in_err-d.was)
 
-pub loop-i-init : goal.loop-i-init
-loop-i-init c = (omega arith, omega arith, begun c.args.bytes.now (search rules))
+pub returns-in_err-checked_mul : goal.returns-in_err-checked_mul
+returns-in_err-checked_mul c =
+    let over : ¬ (c.loop-byte.value * 10 < 2 ^ 64) = c.in_err-checked_mul.ensures in
+    c.from_residual-in_err-checked_mul.ensures
+    ∙ too_large c.args.bytes.now _ c.loop-byte.byte-index c.loop-byte-test.true c.loop-byte.invariant.1 c.in_ok-d.d
+    (sym c.digit.ensures ∙ c.in_ok-d.was) (omega arith)
 
-pub returns-then-d-gt9 : goal.returns-then-d-gt9
-returns-then-d-gt9 c =
-    let bytes = c.args.bytes.now in
-    let b = get_or bytes c.loop-i.i 0 in
-    sym
-    (next bytes c.loop-i.value c.loop-i.i c.loop-i-test.true c.loop-i.invariant.2
-    ∙ other c.loop-i.value b _ (no_digit b c.digit-d.result c.digit-d.ensures c.if-d-gt9.true))
+pub returns-in_err-value : goal.returns-in_err-value
+returns-in_err-value c =
+    let over : ¬ (c.in_ok-checked_mul.field-0 + c.in_ok-d.d < 2 ^ 64) = c.in_err-value.ensures in
+    let tens = c.in_ok-checked_mul.ensures in
+    c.from_residual-in_err-value.ensures
+    ∙ too_large c.args.bytes.now _ c.loop-byte.byte-index c.loop-byte-test.true c.loop-byte.invariant.1 c.in_ok-d.d
+    (sym c.digit.ensures ∙ c.in_ok-d.was) (omega arith)
 
-pub returns-then-d-value : goal.returns-then-d-value
-returns-then-d-value c =
-    sym (turn (goal.at.returns-then-d-value c).Else-d-gt9 ∙ over _ _ (omega arith))
-
-pub loop-i-preserved : goal.loop-i-preserved
-loop-i-preserved c = (omega arith, omega arith, turn (goal.at.loop-i-preserved c).Else-d-gt9)
+pub loop-byte-preserved : goal.loop-byte-preserved
+loop-byte-preserved c =
+    let tens = c.in_ok-checked_mul.ensures in
+    let sum = c.in_ok-value.ensures in (
+      omega arith,
+      rw (sum.1, tens.1)
+          (turn c.args.bytes.now _ c.loop-byte.byte-index c.loop-byte-test.true c.loop-byte.invariant.1 c.in_ok-d.d
+          (sym c.digit.ensures ∙ c.in_ok-d.was)),
+    )
 
 pub returns : goal.returns
 returns c =
     let bytes = c.args.bytes.now in
     sym
-    (c.loop-i.invariant.2
-    ∙ ap (number_from c.loop-i.value) (drop_of_length-le bytes c.loop-i-test.false)
-    ∙ ended c.loop-i.value c.loop-i.invariant.1)
+    (c.loop-byte.invariant.1
+    ∙ ap (number_from c.loop-byte.value) (drop_of_length-le bytes c.loop-byte-test.false)
+    ∙ ended c.loop-byte.value c.loop-byte.invariant.0)

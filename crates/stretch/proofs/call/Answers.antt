@@ -14,7 +14,7 @@ pub returns-then-twice-k : goal.returns-then-twice-k
 returns-then-twice-k c = runs_dry _ _ _ _ _ _ _ _ _ c.requires _ _ _ (c.work-twice.ensures ∙ ap (fast_work _ _ _) c.work-once.ensures) c.if-twice-k.true _ c.undo.ensures
 
 pub returns-then-e-last : goal.returns-then-e-last
-returns-then-e-last c = comes_to_the_end _ _ _ _ _ _ _ _ _ c.requires _ _ _ (c.work-twice.ensures ∙ ap (fast_work _ _ _) c.work-once.ensures) c.if-twice-k.false _ c.wide-e.ensures.0 c.if-e-last.true
+returns-then-e-last c = comes_to_the_end _ _ _ _ _ _ _ _ _ c.requires _ _ _ (c.work-twice.ensures ∙ ap (fast_work _ _ _) c.work-once.ensures) c.if-twice-k.false _ c.from-e.ensures c.if-e-last.true
 
 pub returns : goal.returns
-returns c = moves_one _ _ _ _ _ _ _ _ _ c.requires _ _ _ (c.work-twice.ensures ∙ ap (fast_work _ _ _) c.work-once.ensures) c.if-twice-k.false _ c.wide-e.ensures.0 c.if-e-last.false _ _ _ c.advance-byte.ensures
+returns c = moves_one _ _ _ _ _ _ _ _ _ c.requires _ _ _ (c.work-twice.ensures ∙ ap (fast_work _ _ _) c.work-once.ensures) c.if-twice-k.false _ c.from-e.ensures c.if-e-last.false _ _ _ c.advance-byte.ensures

@@ -16,8 +16,8 @@ returns-then-not-fits c = refuses _ _ _ _ _ _ _ _ _ _ _ _ c.fits.ensures c.if-no
 pub run_calls-ran-requires : goal.run_calls-ran-requires
 run_calls-ran-requires c = runnable _ _ _ _ _ _ _ c.args.entries _ _ _ _ c.fits.ensures c.if-not-fits.false (entries_long (goal.at.run_calls-ran-requires c).Start) _ c.long_queue-queue.ensures
 
-pub overflow_sub-stage : goal.overflow_sub-stage
-overflow_sub-stage c = (window_fits _ _ _ _ _ _ _ c.args.entries _ _ _ _ c.fits.ensures c.if-not-fits.false (entries_long (goal.at.overflow_sub-stage c).Start) _ c.long_queue-queue.ensures _ _ _ _ _ _ c.run_calls-ran.ensures).0
+pub overflow_sub-result : goal.overflow_sub-result
+overflow_sub-result c = (window_fits _ _ _ _ _ _ _ c.args.entries _ _ _ _ c.fits.ensures c.if-not-fits.false (entries_long (goal.at.overflow_sub-result c).Start) _ c.long_queue-queue.ensures _ _ _ _ _ _ c.run_calls-ran.ensures).0
 
 pub window-requires : goal.window-requires
 window-requires c = (window_fits _ _ _ _ _ _ _ c.args.entries _ _ _ _ c.fits.ensures c.if-not-fits.false (entries_long (goal.at.window-requires c).Start) _ c.long_queue-queue.ensures _ _ _ _ _ _ c.run_calls-ran.ensures).1

@@ -6,14 +6,14 @@ use Rattle.stretch.proofs.run_calls.Goals as goal
 pub loop-k-init : goal.loop-k-init
 loop-k-init c = begun _ _ _ _ _ _ _ _ _ _ _ c.requires (search rules)
 
-pub returns-then-called-eq2 : goal.returns-then-called-eq2
-returns-then-called-eq2 c = dried _ _ _ _ _ _ _ _ _ _ _ _ _ _ _ _ _ _ c.loop-k.invariant c.loop-k-test.true _ _ _ _ _ c.call-called.ensures c.if-called-eq2.true
+pub returns-in-End : goal.returns-in-End
+returns-in-End c = ended_there _ _ _ _ _ _ _ _ _ _ _ _ _ _ _ _ _ _ c.loop-k.invariant c.loop-k-test.true _ _ _ _ _ _ c.call-called.ensures c.in-End.is
 
-pub returns-then-called-eq1 : goal.returns-then-called-eq1
-returns-then-called-eq1 c = ended_there _ _ _ _ _ _ _ _ _ _ _ _ _ _ _ _ _ _ c.loop-k.invariant c.loop-k-test.true _ _ _ _ _ c.call-called.ensures c.if-called-eq2.false c.if-called-eq1.true
+pub returns-in-Dry : goal.returns-in-Dry
+returns-in-Dry c = dried _ _ _ _ _ _ _ _ _ _ _ _ _ _ _ _ _ _ c.loop-k.invariant c.loop-k-test.true _ _ _ _ _ _ c.call-called.ensures c.in-Dry.is
 
 pub loop-k-preserved : goal.loop-k-preserved
-loop-k-preserved c = again _ _ _ _ _ _ _ _ _ _ _ _ _ _ _ _ _ _ c.loop-k.invariant c.loop-k-test.true _ _ _ _ _ c.call-called.ensures c.if-called-eq2.false c.if-called-eq1.false
+loop-k-preserved c = again _ _ _ _ _ _ _ _ _ _ _ _ _ _ _ _ _ _ c.loop-k.invariant c.loop-k-test.true _ _ _ _ _ _ c.call-called.ensures _ c.in-Moved.is
 
 pub returns : goal.returns
 returns c = full _ _ _ _ _ _ _ _ _ _ _ _ _ _ _ _ _ _ c.loop-k.invariant c.loop-k-test.false

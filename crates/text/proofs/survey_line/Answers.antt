@@ -6,7 +6,7 @@ pub returns-in_default : goal.returns-in_default
 returns-in_default c = refused_line _ _ c.size-counted.ensures _ _ c.in_default.is c.number.ensures
 
 pub returns-then-total-gt-MOST : goal.returns-then-total-gt-MOST
-returns-then-total-gt-MOST c = long_line _ _ c.size-counted.ensures _ c.in-Size.is c.if-total-gt-MOST.true
+returns-then-total-gt-MOST c = long_line _ _ c.size-counted.ensures _ c.in-Ok.is c.if-total-gt-MOST.true
 
 pub returns : goal.returns
-returns c = sizes_line _ _ c.size-counted.ensures _ c.in-Size.is c.if-total-gt-MOST.false
+returns c = sizes_line _ _ c.size-counted.ensures _ c.in-Ok.is c.if-total-gt-MOST.false

@@ -1,7 +1,8 @@
 -- The date of a line: what its bytes are where it is read, and that it is known by its two numbers.
-use Prim.Native.Nat.{ℕ, ◌+◌, ◌-◌, ◌≤◌, ◌<◌}
+use Rattle.std.specs.Prelude.{Some, None}
+use Prim.Native.Nat.{ℕ, ◌-◌, ◌≤◌, ◌<◌}
 use native.Mathlib.Omega.{arith}
-use mathlib.Core.Path.{◌≡◌, refl, sym, ap, ◌∙◌}
+use mathlib.Core.Path.{◌≡◌, refl, ap, ◌∙◌}
 use mathlib.Core.Bool.{Bool, true, false, cond, and-eq-true_iff}
 use mathlib.Core.List.{List}
 use borrow.Author.Tests.{leb-true, eqb-true}
@@ -12,8 +13,7 @@ use Rattle.text_theory.specs.Ascii.{ascii}
 use Rattle.text_theory.specs.Decimals.{is_digit}
 use Rattle.tides_theory.specs.Calendar.{days_of_years, days_of_months}
 use Rattle.tides.specs.declared.line.Day.{Day}
-use Rattle.tides.specs.declared.line.Dated.TheVariants.{On, Unread}
-use Rattle.tides.specs.Stages.{line_bytes, date_marks, date_ones, pair_of, fields_of, leap_day, length_of, date_ranged, start_in}
+use Rattle.tides.specs.Stages.{date_marks, date_ones, pair_of, fields_of, leap_day, length_of, date_ranged, start_in}
 use Rattle.tides.specs.Stages.{word_of, dated, day_of, day_as, Right, has_numbers, first_known}
 use Rattle.tides.proofs.line.Answered.{all_three, all_five}
 use Rattle.tides.proofs.line.Ranges.{Among, DateRanged, date_ranged_says}
@@ -88,7 +88,7 @@ tail_bytes line s =
     one s.byte3 (one s.byte4 (one s.byte5 (one s.byte6
     (one s.byte7 (one s.byte8 (one s.byte9 (one s.byte10 none)))))))
 
--- they are small where it is read, and in a file of bytes
+-- they are small where it is read, and in a line of bytes
 date_small : (line : List ℕ) → DateSays line → Small line
 date_small line s = record {
   byte0 = omega arith;
@@ -104,32 +104,20 @@ date_small line s = record {
   byte10 = omega arith;
 }
 
-file_small : (file : List ℕ) (at : ℕ) → ((i : ℕ) → get_or file i 0 < 256) → Small (line_bytes file at)
-file_small file at below = record {
-  byte0 = below at;
-  byte1 = below (at + 1);
-  byte2 = below (at + 2);
-  byte3 = below (at + 3);
-  byte4 = below (at + 4);
-  byte5 = below (at + 5);
-  byte6 = below (at + 6);
-  byte7 = below (at + 7);
-  byte8 = below (at + 8);
-  byte9 = below (at + 9);
-  byte10 = below (at + 10);
+bytes_small : (line : List ℕ) → ((i : ℕ) → get_or line i 0 < 256) → Small line
+bytes_small line below = record {
+  byte0 = below 0;
+  byte1 = below 1;
+  byte2 = below 2;
+  byte3 = below 3;
+  byte4 = below 4;
+  byte5 = below 5;
+  byte6 = below 6;
+  byte7 = below 7;
+  byte8 = below 8;
+  byte9 = below 9;
+  byte10 = below 10;
 }
-
--- the second number, at a place of a file and in the line that begins there
-tail_word : (file : List ℕ) (at : ℕ) → word_of file (at + 3) ≡ word_of (line_bytes file at) 3
-tail_word file at =
-    let e1 : at + 3 + 1 ≡ at + 4 = omega arith in
-    let e2 : at + 3 + 2 ≡ at + 5 = omega arith in
-    let e3 : at + 3 + 3 ≡ at + 6 = omega arith in
-    let e4 : at + 3 + 4 ≡ at + 7 = omega arith in
-    let e5 : at + 3 + 5 ≡ at + 8 = omega arith in
-    let e6 : at + 3 + 6 ≡ at + 9 = omega arith in
-    let e7 : at + 3 + 7 ≡ at + 10 = omega arith in
-    rw (e1, e2, e3, e4, e5, e6, e7) refl
 
 -- what has the bytes of a date has its date
 same_date : (a b : List ℕ) → eight_at a 0 ≡ eight_at b 0 → eight_at a 3 ≡ eight_at b 3
@@ -138,20 +126,20 @@ unfolding date_ranged
 same_date a b head tail = (cc, cc)
 
 -- ---- the day of a line
-pub undated : (line : List ℕ) → dated line ≡ false → Unread ≡ day_as line
+pub undated : (line : List ℕ) → dated line ≡ false → None ≡ day_as line
 unfolding day_as
 undated line e = rw e refl
 
-dated_as : (line : List ℕ) (day : Day) → dated line ≡ true → day ≡ day_of line → On day ≡ day_as line
+pub dated_as : (line : List ℕ) (day : Day) → dated line ≡ true → day ≡ day_of line → Some day ≡ day_as line
 unfolding day_as
-dated_as line day e is = rw e (ap On is)
+dated_as line day e is = rw e (ap (λ (d : Day). Some d) is)
 
 -- and back
-pub no_day : (line : List ℕ) → day_as line ≡ Unread → dated line ≡ false
+pub no_day : (line : List ℕ) → day_as line ≡ None → dated line ≡ false
 unfolding day_as
 no_day line e = by (dated line) e
   where
-    by : (t : Bool) → cond t (On (day_of line)) Unread ≡ Unread → t ≡ false
+    by : (t : Bool) → cond t (Some (day_of line)) None ≡ None → t ≡ false
     by true f = impossible (cc)
     by false f = refl
 
@@ -159,40 +147,29 @@ pub record DayRead (line : List ℕ) (day : Day) : Type 0 where
   pub read : dated line ≡ true
   pub is : day ≡ day_of line
 
-pub day_read : (line : List ℕ) (day : Day) → day_as line ≡ On day → DayRead line day
+pub day_read : (line : List ℕ) (day : Day) → day_as line ≡ Some day → DayRead line day
 unfolding day_as
 day_read line day e = by (dated line) refl e
   where
-    by : (t : Bool) → dated line ≡ t → cond t (On (day_of line)) Unread ≡ On day → DayRead line day
+    by : (t : Bool) → dated line ≡ t → cond t (Some (day_of line)) None ≡ Some day → DayRead line day
     by true is f = record { read = is; is = cc }
     by false is f = impossible (cc)
 
--- ---- at a place of a file
-module _ (file : List ℕ) (at : ℕ) where
-  -- a date that has been read
-  pub day_here : (head tail start : ℕ) → head ≡ word_of file at → tail ≡ word_of file (at + 3)
-      → start ≡ start_in (fields_of (line_bytes file at)) → dated (line_bytes file at) ≡ true
-      → On (record { head = head; tail = tail; start = start }) ≡ day_as (line_bytes file at)
-  day_here head tail start h t s e =
-      let back = tail_word file at in
-      dated_as (line_bytes file at) (record { head = head; tail = tail; start = start }) e (cc)
-
-  -- and one with the numbers of a day that is right: it is that day
-  pub known_day : (day : Day) → ((i : ℕ) → get_or file i 0 < 256) → Right day → has_numbers file at day ≡ true
-      → On day ≡ day_as (line_bytes file at)
-  known_day day below r e =
-      let line = line_bytes file at in
-      let a = r.line in
-      let (h, t) = (and-eq-true_iff (eqb (word_of file at) day.head) (eqb (word_of file (at + 3)) day.tail)).0 e in
-      let heads : word_of line 0 ≡ word_of a 0 = eqb-true _ _ h ∙ ap (λ d. d.head) r.is in
-      let tails : word_of line 3 ≡ word_of a 3 = sym (tail_word file at) ∙ eqb-true _ _ t ∙ ap (λ d. d.tail) r.is in
-      let here = file_small file at below in
-      let there = date_small a (date-says a r.read) in
-      let (same, start) =
-      same_date line a
-      (word_tells line a 0 (head_bytes line here) (head_bytes a there) heads)
-      (word_tells line a 3 (tail_bytes line here) (tail_bytes a there) tails) in
-      dated_as line day (same ∙ r.read) (cc)
+-- one with the numbers of a day that is right is that day
+pub known_day : (line : List ℕ) (day : Day) → ((i : ℕ) → get_or line i 0 < 256) → Right day → has_numbers line day ≡ true
+    → Some day ≡ day_as line
+known_day line day below r e =
+    let a = r.line in
+    let (h, t) = (and-eq-true_iff (eqb (word_of line 0) day.head) (eqb (word_of line 3) day.tail)).0 e in
+    let heads : word_of line 0 ≡ word_of a 0 = eqb-true _ _ h ∙ ap (λ d. d.head) r.is in
+    let tails : word_of line 3 ≡ word_of a 3 = eqb-true _ _ t ∙ ap (λ d. d.tail) r.is in
+    let here = bytes_small line below in
+    let there = date_small a (date-says a r.read) in
+    let (same, start) =
+    same_date line a
+    (word_tells line a 0 (head_bytes line here) (head_bytes a there) heads)
+    (word_tells line a 3 (tail_bytes line here) (tail_bytes a there) tails) in
+    dated_as line day (same ∙ r.read) (cc)
 
 -- ---- days that are right
 pub first_right : Right first_known

@@ -1,13 +1,14 @@
 -- 19 bytes are a line that is read exactly if they pass the code's tests, and then they say what the code counts.
+use Rattle.std.specs.Prelude.{Option, Some, None}
 use Prim.Native.Nat.{ℕ, zero, suc, ◌+◌, ◌-◌, ◌/◌, ◌%◌, ◌≤◌, ◌<◌}
 use native.Mathlib.Omega.{arith}
-use mathlib.Core.Path.{◌≡◌, refl, sym, ap, ap₂, subst, ◌∙◌}
+use mathlib.Core.Path.{◌≡◌, refl, sym, ap, subst, ◌∙◌}
 use mathlib.Core.Bool.{Bool, true, false, cond, ◌||◌, and-eq-true_iff}
 use mathlib.Core.List.{List, [], ◌∷◌}
 use borrow.Author.Tests.{eqb-true, eq-eqb}
 use lib.Dec.{eqb}
 use lib.ListN.{length, get_or, take, drop}
-use lib.Seq.{drop-cons}
+use lib.Seq.{drop-cons, take_all}
 use Rattle.gray_theory.specs.Bools.{impossible}
 use Rattle.text_theory.specs.Ascii.{ascii}
 use Rattle.text_theory.specs.Decimals.{glyph, is_digit}
@@ -15,37 +16,38 @@ use Rattle.tides_theory.specs.Lines.{high_letter, low_letter, Notice, notice_in,
 use Rattle.tides_theory.specs.Windows.{tide_of}
 use Rattle.tides_theory.proofs.FieldDigits.{glyph_is_digit}
 use Rattle.tides_theory.proofs.Exact.{notices_have_lines, lines_are_their_notices, lines_say_what_is_in_range}
-use Rattle.tides.specs.declared.line.Line.{Line}
-use Rattle.tides.specs.declared.line.Line.TheVariants.{Tide, Unread}
+use Rattle.tides.specs.declared.line.Water.{Water}
+use Rattle.tides.specs.declared.line.Tide.{Tide}
 use Rattle.tides.specs.declared.line.Fields.{Fields}
-use Rattle.tides.specs.Stages.{line_bytes, date_marks, time_marks, date_ones, time_ones, is_letter, pair_of, fields_of}
-use Rattle.tides.specs.Stages.{date_ranged, time_ranged, minute_in, dated, day_of, Right, tide_in, letter_of, line_as}
+use Rattle.tides.specs.Stages.{date_marks, time_marks, date_ones, time_ones, is_letter, pair_of, fields_of}
+use Rattle.tides.specs.Stages.{date_ranged, time_ranged, minute_in, dated, day_of, Right, tide_in, letter_of, water, water_of, says, line_as}
 use Rattle.tides.proofs.line.Answered.{all_three, all_pass}
 use Rattle.tides.proofs.line.Ranges.{time_ranged_says}
 use Rattle.tides.proofs.line.Notices.{InRange, in_range_says, day_bound, notice_of, ranged_in_range, in_range_ranged}
 use Rattle.tides.proofs.line.Dates.{Paired, paired, date-says}
 
 -- ---- the bytes of a line
--- k bytes, the first of them i behind a place. At 18 and 1 it computes to those of `line_bytes` behind the first
-bytes_from : List ℕ → ℕ → ℕ → ℕ → List ℕ
-bytes_from file at i zero = []
-bytes_from file at i (suc k) = get_or file (at + i) 0 ∷ bytes_from file at (suc i) k
+-- k of them, the first of them byte i. At 0 and 19 it computes to `line_bytes`
+bytes_from : List ℕ → ℕ → ℕ → List ℕ
+bytes_from line i zero = []
+bytes_from line i (suc k) = get_or line i 0 ∷ bytes_from line (suc i) k
 
-taken : (file : List ℕ) (at i k : ℕ) → at + i + k ≤ length file → take k (drop (at + i) file) ≡ bytes_from file at i k
+taken : (line : List ℕ) (i k : ℕ) → i + k ≤ length line → take k (drop i line) ≡ bytes_from line i k
 unfolding bytes_from
-taken file at i zero h = refl
-taken file at i (suc k) h =
-    let next : suc (at + i) ≡ at + suc i = omega arith in
-    rw (drop-cons file (at + i) 0 (omega arith), next)
-    (ap (λ l. get_or file (at + i) 0 ∷ l) (taken file at (suc i) k (omega arith)))
+taken line i zero h = refl
+taken line i (suc k) h =
+    rw (drop-cons line i 0 (omega arith))
+    (ap (λ l. get_or line i 0 ∷ l) (taken line (suc i) k (omega arith)))
 
-line_bytes_lem : (file : List ℕ) (at : ℕ) → at + 19 ≤ length file → take 19 (drop at file) ≡ line_bytes file at
+abbrev line_bytes : List ℕ → List ℕ
+line_bytes line =
+    get_or line 0 0 ∷ get_or line 1 0 ∷ get_or line 2 0 ∷ get_or line 3 0 ∷ get_or line 4 0 ∷ get_or line 5 0 ∷ get_or line 6 0
+    ∷ get_or line 7 0 ∷ get_or line 8 0 ∷ get_or line 9 0 ∷ get_or line 10 0 ∷ get_or line 11 0 ∷ get_or line 12 0
+    ∷ get_or line 13 0 ∷ get_or line 14 0 ∷ get_or line 15 0 ∷ get_or line 16 0 ∷ get_or line 17 0 ∷ get_or line 18 0 ∷ []
+
+line_bytes_lem : (line : List ℕ) → length line ≡ 19 → line ≡ line_bytes line
 unfolding bytes_from
-line_bytes_lem file at h =
-    let next : suc at ≡ at + 1 = omega arith in
-    ap (take 19) (drop-cons file at 0 (omega arith))
-    ∙ ap (λ i. get_or file at 0 ∷ take 18 (drop i file)) next
-    ∙ ap (λ l. get_or file at 0 ∷ l) (taken file at 1 18 (omega arith))
+line_bytes_lem line h = sym (take_all 19 line (omega arith)) ∙ taken line 0 19 (omega arith)
 
 -- ---- digits
 -- two digits of a number below 100, and the last two of a year
@@ -90,6 +92,24 @@ letter_written false = refl
 letter_fits : (high : Bool) → is_letter (letter_of high) ≡ true
 letter_fits true = refl
 letter_fits false = refl
+
+-- what it says
+pub no_water : (l : ℕ) → water_of l ≡ None → is_letter l ≡ false
+unfolding water_of
+no_water l e = by (is_letter l) e
+  where
+    by : (t : Bool) → cond t (Some (water (eqb l high_letter))) None ≡ None → t ≡ false
+    by true f = impossible (cc)
+    by false f = refl
+
+pub water_read : (l : ℕ) (w : Water) → water_of l ≡ Some w → (is_letter l ≡ true) × (w ≡ water (eqb l high_letter))
+unfolding water_of
+water_read l w e = by (is_letter l) refl e
+  where
+    by : (t : Bool) → is_letter l ≡ t → cond t (Some (water (eqb l high_letter))) None ≡ Some w
+        → (is_letter l ≡ true) × (w ≡ water (eqb l high_letter))
+    by true is f = (is, cc)
+    by false is f = impossible (cc)
 
 -- ---- a line that is read passes the tests
 -- the code's tests
@@ -170,7 +190,7 @@ day_right line e = record { line = line; read = (read_passes line e).date; is = 
 
 -- ---- and what passes the tests is a line that is read
 -- 19 bytes that pass are those of the notice of their numbers
-line_written : (line : List ℕ) → line ≡ line_bytes line 0 → Passes line
+line_written : (line : List ℕ) → line ≡ line_bytes line → Passes line
     → line ≡ line_of (notice_of (fields_of line) (eqb (get_or line 17 0) high_letter))
 unfolding line_of
 line_written line whole p =
@@ -199,50 +219,43 @@ line_written line whole p =
     )
 
 -- what is answered, by whether it is one
-abbrev pub answer : List ℕ → Bool → Line
-answer line is = cond is (Tide (tide_in line).at (letter_of (tide_in line).high) (day_of line)) Unread
+abbrev pub answer : List ℕ → Bool → Option Tide
+answer line is = cond is (Some (says line)) None
 
-read : (line : List ℕ) → line ≡ line_bytes line 0 → Passes line
-    → line_as line ≡ Tide (minute_in (fields_of line)) (get_or line 17 0) (day_of line)
+-- what the code makes of its numbers and its letter
+abbrev pub coded : List ℕ → Tide
+coded line = record { minute = minute_in (fields_of line); water = water (eqb (get_or line 17 0) high_letter); day = day_of line }
+
+pub line_read_lem : (line : List ℕ) → length line ≡ 19 → Passes line → Some (coded line) ≡ line_as line
 unfolding line_as
-read line whole p =
+line_read_lem line long p =
     let f = fields_of line in
     let l = get_or line 17 0 in
-    let same = line_written line whole p in
+    let same = line_written line (line_bytes_lem line long) p in
     let high = eqb l high_letter in
     let d = date-says line p.date in
     let r = notices_have_lines (notice_of f high) (ranged_in_range f high d.ranged (time_ranged_says f p.range)) in
+    sym (
     ap (answer line) (ap is_line same ∙ r.read)
-    ∙ ap (λ m. Tide (tide_of m).at (letter_of (tide_of m).high) (day_of line)) (ap notice_in same ∙ r.says)
-    ∙ ap₂ (λ m k. Tide m k (day_of line)) (sym (minute_of_lem f high)) (letter_is l p.letter)
+    ∙ ap (λ m. Some (record { minute = (tide_of m).at; water = water (tide_of m).high; day = day_of line })) (ap notice_in same ∙ r.says)
+    ∙ ap (λ m. Some (record { minute = m; water = water high; day = day_of line })) (sym (minute_of_lem f high))
+    )
 
 -- and where a test fails that each line passes
-unread : (line : List ℕ) (is test : Bool) → is_line line ≡ is → (Passes line → test ≡ true) → test ≡ false → line_as line ≡ Unread
+pub line_unread : (line : List ℕ) (test : Bool) → (Passes line → test ≡ true) → test ≡ false → None ≡ line_as line
 unfolding line_as
-unread line true test e needed fails = let passes = needed (read_passes line e) in impossible (cc)
-unread line false test e needed fails = ap (answer line) e
+line_unread line test needed fails = by (is_line line) refl
+  where
+    by : (is : Bool) → is_line line ≡ is → None ≡ answer line (is_line line)
+    by true e = let passes = needed (read_passes line e) in impossible (cc)
+    by false e = sym (ap (answer line) e)
 
--- ---- at a place of a file
-module _ (file : List ℕ) (at : ℕ) (fits : at + 19 ≤ length file) where
-  pub line_read_lem : Passes (line_bytes file at)
-      → Tide (minute_in (fields_of (line_bytes file at))) (get_or file (at + 17) 0) (day_of (line_bytes file at))
-      ≡ line_as (take 19 (drop at file))
-  line_read_lem p = sym (ap line_as (line_bytes_lem file at fits) ∙ read (line_bytes file at) refl p)
+-- ---- of a line that has been read before
+module _ (line : List ℕ) (e : is_line line ≡ true) where
+  pub line_ranged : (date_ranged (fields_of line) ≡ true) × (time_ranged (fields_of line) ≡ true)
+  line_ranged =
+      let p = read_passes line e in
+      ((all_three (date_marks line) (date_ones line) (date_ranged (fields_of line)) p.date).2, p.range)
 
-  pub line_unread : (test : Bool) → (Passes (line_bytes file at) → test ≡ true) → test ≡ false
-      → Unread ≡ line_as (take 19 (drop at file))
-  line_unread test needed fails =
-      sym (ap line_as (line_bytes_lem file at fits) ∙ unread (line_bytes file at) (is_line (line_bytes file at)) test refl needed fails)
-
-  -- of a line that has been read before
-  module _ (e : is_line (take 19 (drop at file)) ≡ true) where
-    pub line_ranged : (date_ranged (fields_of (line_bytes file at)) ≡ true) × (time_ranged (fields_of (line_bytes file at)) ≡ true)
-    line_ranged =
-        let l = line_bytes file at in
-        let p = subst Passes (line_bytes_lem file at fits) (read_passes (take 19 (drop at file)) e) in
-        ((all_three (date_marks l) (date_ones l) (date_ranged (fields_of l)) p.date).2, p.range)
-
-    pub line_minute : minute_in (fields_of (line_bytes file at)) ≡ (tide_in (take 19 (drop at file))).at
-    line_minute =
-        sym (ap (λ l. minute_in (fields_of l)) (line_bytes_lem file at fits))
-        ∙ minute_said (take 19 (drop at file)) e
+  pub line_minute : minute_in (fields_of line) ≡ (tide_in line).at
+  line_minute = minute_said line e

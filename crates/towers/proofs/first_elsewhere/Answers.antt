@@ -1,9 +1,10 @@
--- `towers::first_elsewhere` meets its contract: after i turns the first i disks are on disk 1's peg. Assumes nothing.
+-- `towers::first_elsewhere` meets its contract: before index i all disks are on disk 1's peg. Assumes nothing.
 use mathlib.Core.Path.{ap}
 use mathlib.Core.Bool.{not}
+use native.Mathlib.Omega.{arith}
 use borrow.Author.Tests.{ne_eqb}
 use lib.Dec.{eqb}
-use lib.ListN.{get_or}
+use lib.ListN.{length, get_or}
 use Rattle.towers.proofs.Games.{found_here, found_none}
 use Rattle.towers.proofs.first_elsewhere.Goals as goal
 
@@ -18,4 +19,4 @@ returns-then-pegs-i c =
 pub returns : goal.returns
 returns c =
     let l = c.args.pegs.now in
-    found_none _ (λ k. not (eqb (get_or l k 0) (get_or l 0 0))) _ c.loop-i-test.false c.loop-i.invariant
+    found_none (length l) (λ k. not (eqb (get_or l k 0) (get_or l 0 0))) (λ k h. c.loop-i.invariant k (omega arith))

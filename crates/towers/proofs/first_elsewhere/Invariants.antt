@@ -1,5 +1,4 @@
--- `towers::first_elsewhere` meets its contract: after i turns the first i disks are on disk 1's peg. Assumes nothing.
-use Prim.Native.Nat.{◌-◌}
+-- `towers::first_elsewhere` meets its contract: before index i all disks are on disk 1's peg. Assumes nothing.
 use mathlib.Core.Bool.{not}
 use lib.Dec.{eqb}
 use lib.ListN.{get_or}
@@ -8,6 +7,3 @@ use Rattle.towers.proofs.first_elsewhere.Given as goal
 
 abbrev pub invariant-loop-i : goal.invariant-loop-i
 invariant-loop-i l = NoneBelow l.i (λ k. not (eqb (get_or l.pegs k 0) (get_or l.pegs 0 0)))
-
-abbrev pub decreases-loop-i : goal.decreases-loop-i
-decreases-loop-i l = l.n - l.i

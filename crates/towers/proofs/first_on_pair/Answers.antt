@@ -3,7 +3,7 @@ use Prim.Native.Nat.{ℕ, ◌-◌}
 use mathlib.Core.Path.{◌≡◌, sym, ap, ◌∙◌}
 use mathlib.Core.Bool.{Bool}
 use native.Mathlib.Omega.{arith}
-use lib.ListN.{get_or}
+use lib.ListN.{length, get_or}
 use Rattle.towers_theory.specs.Choices.{side_peg, on_pair}
 use Rattle.towers.proofs.Games.{found_here, found_none}
 use Rattle.towers.proofs.first_on_pair.Goals as goal
@@ -30,7 +30,7 @@ tested c =
 pub returns-then-on_pair : goal.returns-then-on_pair
 returns-then-on_pair c =
     found_here _ (onThePair (goal.at.returns-then-on_pair c).Start) _ c.loop-i-test.true (sym (tested (goal.at.returns-then-on_pair c).After-on_pair) ∙ c.if-on_pair.true)
-    c.loop-i.invariant.1
+    c.loop-i.invariant
 
 pub returns : goal.returns
-returns c = found_none _ (onThePair (goal.at.returns c).Start) _ c.loop-i-test.false c.loop-i.invariant.1
+returns c = found_none (length c.args.digits.now) (onThePair (goal.at.returns c).Start) (λ k h. c.loop-i.invariant k (omega arith))

@@ -1,23 +1,7 @@
--- `towers::radices_play` meets its contract: after i turns the first i places are tested. Assumes nothing.
-use mathlib.Core.Path.{◌≡◌, refl}
-use lib.ListN.{length, get_or}
-use native.Mathlib.Omega.{arith}
-use borrow.Author.Rules.{rules}
-use Rattle.gray_theory.proofs.DigitRanges.{tested_none}
-use Rattle.gray_theory.proofs.Gathers.{gathered_more, gathered}
+-- `towers::radices_play` meets its contract. Assumes nothing.
 use Rattle.towers.specs.Stages.{plays}
+use borrow.Author.Rules.{rules}
 use Rattle.towers.proofs.radices_play.Goals as goal
 
-pub loop-i-init : goal.loop-i-init
-loop-i-init c = (omega arith, refl, tested_none _)
-
-pub loop-i-preserved : goal.loop-i-preserved
-loop-i-preserved c =
-    let a = c.args in
-    (omega arith, omega arith, gathered_more a.n (λ x j. plays a.m (get_or a.radices j 0)) _ _ _ _ c.loop-i.invariant.1 c.loop-i.invariant.2 c.radix_plays-ok.ensures)
-
 pub returns : goal.returns
-returns c =
-    let a = c.args in
-    let long : length a.radices ≡ 48 = search rules in
-    gathered a.n a.radices (λ x j. plays a.m (get_or a.radices j 0)) _ _ long c.loop-i.invariant.0 c.loop-i-test.false c.loop-i.invariant.2
+returns c = c.all_pass.ensures (plays c.args.m) (λ byte answer h post. search rules)

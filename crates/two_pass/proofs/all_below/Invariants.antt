@@ -1,13 +1,9 @@
 -- `two_pass::all_below` meets its contract: after i turns it has tested the slowest i digits. Assumes nothing.
-use Prim.Native.Nat.{◌≤◌, ◌-◌}
 use mathlib.Core.Path.{◌≡◌}
-use lib.ListN.{length, take}
+use lib.ListN.{take}
 use Rattle.gray_theory.specs.Radices.{digits}
 use Rattle.gray_theory.specs.Words.{is_word}
 use Rattle.two_pass.proofs.all_below.Given as goal
 
 abbrev pub invariant-loop-i : goal.invariant-loop-i
-invariant-loop-i l = (l.i ≤ length l.radices) × (l.ok ≡ is_word (digits (take l.i l.radices)) (digits (take l.i l.word)))
-
-abbrev pub decreases-loop-i : goal.decreases-loop-i
-decreases-loop-i l = length l.radices - l.i
+invariant-loop-i l = l.ok ≡ is_word (digits (take l.i l.radices)) (digits (take l.i l.word))

@@ -20,10 +20,10 @@ used_fits p old new filled e same =
 
 pub slice_bounds-write_all-end : goal.slice_bounds-write_all-end
 slice_bounds-write_all-end g c =
-    used_fits c.loop-pages.printing c.loop-pages.page _ c.fill-filled.result c.fill-filled.ensures c.fill-filled.auto.page
+    used_fits c.loop.printing c.loop.page _ c.fill-filled.result c.fill-filled.ensures c.fill-filled.auto.page
 
-pub slice_bounds-write_all-end-in-loop-pages : goal.slice_bounds-write_all-end-in-loop-pages
-slice_bounds-write_all-end-in-loop-pages g c =
+pub slice_bounds-write_all-end-in-loop : goal.slice_bounds-write_all-end-in-loop
+slice_bounds-write_all-end-in-loop g c =
     sym
     (length-take-le _ _
-    (used_fits c.loop-pages.printing c.loop-pages.page _ c.fill-filled.result c.fill-filled.ensures c.fill-filled.auto.page))
+    (used_fits c.loop.printing c.loop.page _ c.fill-filled.result c.fill-filled.ensures c.fill-filled.auto.page))

@@ -4,4 +4,4 @@ use Rattle.ahead.proofs.Walk.advance.Goals as goal
 
 pub returns : goal.returns
 returns c =
-    digit_moved_lem _ _ c.requires _ c.wide-i.ensures.0 _ _ c.advanced-to.ensures
+    digit_moved_lem _ _ c.requires _ c.from-i.ensures _ _ c.advanced-to.ensures

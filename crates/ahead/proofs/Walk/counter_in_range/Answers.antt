@@ -21,7 +21,7 @@ bounds-counter-len c =
 
 pub returns-then-count-self : goal.returns-then-count-self
 returns-then-count-self c =
-    all_counted _ (lengths (goal.at.returns-then-count-self c).Start).directed c.requires _ c.wide-len.ensures.0 c.args.self.producer.counter _ _ refl c.if-count-self.true c.places_below.ensures
+    all_counted _ (lengths (goal.at.returns-then-count-self c).Start).directed c.requires _ c.from-len.ensures c.args.self.producer.counter _ _ refl c.if-count-self.true c.places_below.ensures
 
 pub slice_bounds-numbers-end : goal.slice_bounds-numbers-end
 slice_bounds-numbers-end c =
@@ -33,16 +33,16 @@ pub slice_bounds-moving_below-end-2 : goal.slice_bounds-moving_below-end-2
 slice_bounds-moving_below-end-2 c =
     let a = lengths (goal.at.slice_bounds-moving_below-end-2 c).Start in
     let most : c.args.self.moving.count ≤ 48 = moving_most _ a.directed c.requires in
-    let part = length-take-le c.wide-len.result c.args.self.moving.digits (omega arith) in
+    let part = length-take-le c.from-len.result c.args.self.moving.digits (omega arith) in
     omega arith
 
 pub moving_below-requires : goal.moving_below-requires
 moving_below-requires c =
     let a = lengths (goal.at.moving_below-requires c).Start in
     let most : c.args.self.moving.count ≤ 48 = moving_most _ a.directed c.requires in
-    let part = length-take-le c.wide-len.result c.args.self.moving.digits (omega arith) in
-    (lent_numbers _ a.directed c.requires _ c.wide-len.ensures.0, omega arith)
+    let part = length-take-le c.from-len.result c.args.self.moving.digits (omega arith) in
+    (lent_numbers _ a.directed c.requires _ c.from-len.ensures, omega arith)
 
 pub returns : goal.returns
 returns c =
-    moving_counted _ (lengths (goal.at.returns c).Start).directed c.requires _ c.wide-len.ensures.0 c.args.self.producer.counter _ _ refl c.moving_below.ensures
+    moving_counted _ (lengths (goal.at.returns c).Start).directed c.requires _ c.from-len.ensures c.args.self.producer.counter _ _ refl c.moving_below.ensures

@@ -1,22 +1,21 @@
 -- `ahead::Walk::in_range` meets its contract: each stage's test is a part of the range rule. Assumes nothing.
-use Prim.Native.Nat.{ℕ, ◌+◌}
+use Prim.Native.Nat.{ℕ, ◌≤◌}
 use mathlib.Core.Path.{◌≡◌, sym, ap, ap₂, ◌∙◌}
-use mathlib.Core.Bool.{◌&&◌}
 use native.Mathlib.Omega.{arith}
 use borrow.Author.Rules.{rules}
-use lib.Dec.{leb}
-use lib.ListN.{take, get_or}
+use lib.ListN.{length, take}
+use lib.Seq.{length-take-le}
 use Rattle.gray_theory.specs.Answers.{given}
 use Rattle.gray_theory.specs.Calls.{survey_call}
 use Rattle.gray_theory.specs.Capacities.{Openable}
 use Rattle.gray_theory.specs.Radices.{size}
-use Rattle.gray_theory.specs.Directions.{all_below}
-use Rattle.gray.specs.Enums.{counted_as}
-use Rattle.gray.specs.declared.Counted.{Counted}
+use Rattle.std.specs.Prelude.{Result}
+use Rattle.gray.specs.Enums.{answer_as}
+use Rattle.gray.specs.declared.Refusal.{Refusal}
 use Rattle.ahead_theory.specs.States.{Walk, survey, Arrays}
 use Rattle.ahead.specs.Structs.{walk_as}
 use Rattle.ahead.specs.Stages.{Known}
-use Rattle.ahead.proofs.Ranges.{moving_most, digits-over, survey_fails, survey_passes, survey_within, not_open, moving_fail, queue_over, state_tested}
+use Rattle.ahead.proofs.Ranges.{moving_most, digits-over, survey_fails, survey_passes, survey_within, not_open, moving_fail, queue_over, state_tested, entries_lent}
 use Rattle.ahead.proofs.Walk.in_range.Goals as goal
 use Rattle.ahead.proofs.Walk.in_range.Goals.{Start, Else-not-moving_in_range}
 
@@ -24,20 +23,20 @@ lengths : (c : Start) → Arrays (walk_as c.args.self)
 lengths c = search rules
 
 -- what is said of a state's survey and capacity, which the code has made lengths
-survey-says : (w : Walk) (len c : ℕ) (o : Counted)
+survey-says : (w : Walk) (len c : ℕ) (o : Result ℕ Refusal)
     → len ≡ w.directed.n
     → c ≡ w.capacity
-    → counted_as o ≡ survey_call (take len w.directed.radices) c
-    → survey_call (survey w) w.capacity ≡ counted_as o
+    → answer_as o ≡ survey_call (take len w.directed.radices) c
+    → survey_call (survey w) w.capacity ≡ answer_as o
 survey-says w len c o l m says = ap₂ (λ k m. survey_call (take k w.directed.radices) m) (sym l) (sym m) ∙ sym says
 
 -- what is known once they are accepted, and the digits that move are tested
-survey_is : (c : Else-not-moving_in_range) → survey_call (survey (walk_as c.args.self)) c.args.self.capacity ≡ given c.in-Size.total
+survey_is : (c : Else-not-moving_in_range) → survey_call (survey (walk_as c.args.self)) c.args.self.capacity ≡ given c.in-Ok.total
 survey_is c =
-    survey-says (walk_as c.args.self) _ _ _ c.wide-len.ensures.0 c.wide.ensures.0 c.survey_size-counted.ensures ∙ ap counted_as c.in-Size.is
+    survey-says (walk_as c.args.self) _ _ _ c.from.ensures c.from-2.ensures c.survey_size-counted.ensures ∙ ap answer_as c.in-Ok.is
 
 within_limits : (c : Else-not-moving_in_range)
-    → Openable (survey (walk_as c.args.self)) c.args.self.capacity × (c.in-Size.total ≡ size (survey (walk_as c.args.self)))
+    → Openable (survey (walk_as c.args.self)) c.args.self.capacity × (c.in-Ok.total ≡ size (survey (walk_as c.args.self)))
 within_limits c = survey_within _ _ _ (survey_is c)
 
 known : (c : Else-not-moving_in_range) → Known (walk_as c.args.self).directed
@@ -54,7 +53,7 @@ pub returns-in_default : goal.returns-in_default
 returns-in_default c =
     not_open (walk_as c.args.self)
     (survey_fails (survey (walk_as c.args.self)) c.args.self.capacity _
-    (survey-says (walk_as c.args.self) _ _ _ c.wide-len.ensures.0 c.wide.ensures.0 c.survey_size-counted.ensures ∙ ap counted_as c.in_default.is))
+    (survey-says (walk_as c.args.self) _ _ _ c.from.ensures c.from-2.ensures c.survey_size-counted.ensures ∙ ap answer_as c.in_default.is))
 
 pub returns-then-c-queued : goal.returns-then-c-queued
 returns-then-c-queued c = queue_over (walk_as c.args.self) c.if-c-queued.true
@@ -67,8 +66,25 @@ pub entries_in_range-entries-requires : goal.entries_in_range-entries-requires
 entries_in_range-entries-requires c =
     let tested = (goal.at.entries_in_range-entries-requires c).Else-not-moving_in_range in
     let a = lengths (goal.at.entries_in_range-entries-requires c).Start in
-    let most = (within_limits tested).0.capacity in
-    (moving_most _ a.directed (known tested), omega arith)
+    moving_most _ a.directed (known tested)
+
+-- the entries that are held stand in the queue
+held : (c : Else-not-moving_in_range) → Arrays (walk_as c.args.self) → c.args.self.producer.at.queued ≤ length c.args.self.producer.queue
+held c a =
+    let most = (within_limits c).0.capacity in
+    let fits = c.if-c-queued.false in
+    let long = a.queue in
+    omega arith
+
+pub slice_bounds-queue-end : goal.slice_bounds-queue-end
+slice_bounds-queue-end c =
+    let room = held (goal.at.slice_bounds-queue-end c).Else-not-moving_in_range (lengths (goal.at.slice_bounds-queue-end c).Start) in
+    omega (arith, c.from-3.ensures)
+
+pub slice_bounds-entries_in_range-end : goal.slice_bounds-entries_in_range-end
+slice_bounds-entries_in_range-end c =
+    let room = held (goal.at.slice_bounds-entries_in_range-end c).Else-not-moving_in_range (lengths (goal.at.slice_bounds-entries_in_range-end c).Start) in
+    sym (length-take-le _ _ (omega (arith, c.from-3.ensures)))
 
 pub counter_in_range-requires : goal.counter_in_range-requires
 counter_in_range-requires c = known (goal.at.counter_in_range-requires c).Else-not-moving_in_range
@@ -86,13 +102,14 @@ within-requires c =
 pub returns : goal.returns
 returns c =
     let tested = (goal.at.returns c).Else-not-moving_in_range in
+    let fits = held tested (lengths (goal.at.returns c).Start) in
+    let room : c.from-3.result ≤ length c.args.self.producer.queue = omega (arith, c.from-3.ensures) in
     state_tested (walk_as c.args.self) _ _ _ _ _ _ (lengths (goal.at.returns c).Start) (known tested)
     (survey_passes (survey (walk_as c.args.self)) c.args.self.capacity _ (survey_is tested))
     c.if-c-queued.false
     c.digits_in_range-notches.ensures
     c.counter_in_range.ensures
     c.is_place.ensures
-    (c.entries_in_range-entries.ensures
-    ∙ ap (λ k. all_below k (λ i. leb 1 (get_or c.args.self.producer.queue i 0) && leb (get_or c.args.self.producer.queue i 0) (c.args.self.moving.count + 1))) c.wide-2.ensures.0)
+    (entries_lent _ _ _ c.args.self.producer.queue _ c.from-3.ensures room c.entries_in_range-entries.ensures)
     (within_limits tested).1
     c.within.ensures

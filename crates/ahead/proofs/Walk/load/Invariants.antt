@@ -1,11 +1,8 @@
 -- `ahead::Walk::load` meets its contract: after i turns the first i of the digits that move are loaded. Assumes nothing.
-use Prim.Native.Nat.{◌-◌, ◌≤◌}
+use Prim.Native.Nat.{◌≤◌}
 use Rattle.ahead.proofs.Loads.{LoadedTo}
 use Rattle.ahead.proofs.Walk.load.Given as goal
 
 abbrev pub invariant-loop-i : goal.invariant-loop-i
 invariant-loop-i l =
-    (l.i ≤ l.count) × LoadedTo l.radices l.numbers l.word l.downs l.counter l.i l.tops l.rest l.left l.bytes
-
-abbrev pub decreases-loop-i : goal.decreases-loop-i
-decreases-loop-i l = l.count - l.i
+    (l.i ≤ l.count) × LoadedTo l.radices l.numbers l.word l.downs l.counter l.i l.lanes.tops l.lanes.rest l.lanes.left l.lanes.bytes

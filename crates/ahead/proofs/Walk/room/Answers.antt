@@ -13,16 +13,16 @@ lengths : (c : Start) → Arrays (walk_as c.args.self)
 lengths c = search rules
 
 pub slice_bounds-radices-end : goal.slice_bounds-radices-end
-slice_bounds-radices-end c = let s = range_says _ c.requires in let a = (lengths (goal.at.slice_bounds-radices-end c).Start).directed.radices in let e = c.wide-n.ensures.0 in omega arith
+slice_bounds-radices-end c = let s = range_says _ c.requires in let a = (lengths (goal.at.slice_bounds-radices-end c).Start).directed.radices in let e = c.from-n.ensures in omega arith
 
 pub slice_bounds-size-end : goal.slice_bounds-size-end
-slice_bounds-size-end c = let s = range_says _ c.requires in let a = (lengths (goal.at.slice_bounds-size-end c).Start).directed.radices in let e = c.wide-n.ensures.0 in let part = length-take-le c.wide-n.result c.args.self.radices (omega arith) in omega arith
+slice_bounds-size-end c = let s = range_says _ c.requires in let a = (lengths (goal.at.slice_bounds-size-end c).Start).directed.radices in let e = c.from-n.ensures in let part = length-take-le c.from-n.result c.args.self.radices (omega arith) in omega arith
 
 pub returns-in_default : goal.returns-in_default
-returns-in_default c = room_never _ c.requires _ c.wide-n.ensures.0 _ c.size-counted.ensures _ c.in_default.is
+returns-in_default c = room_never _ c.requires _ c.from-n.ensures _ c.size-counted.ensures _ c.in_default.is
 
 pub overflow_sub-result : goal.overflow_sub-result
-overflow_sub-result c = (room_left _ c.requires _ c.wide-n.ensures.0 _ c.size-counted.ensures _ c.in-Size.is).0
+overflow_sub-result c = (room_left _ c.requires _ c.from-n.ensures _ c.size-counted.ensures _ c.in-Ok.is).0
 
 pub returns : goal.returns
-returns c = (room_left _ c.requires _ c.wide-n.ensures.0 _ c.size-counted.ensures _ c.in-Size.is).1
+returns c = (room_left _ c.requires _ c.from-n.ensures _ c.size-counted.ensures _ c.in-Ok.is).1

@@ -14,4 +14,4 @@ pub returns-then-t-self : goal.returns-then-t-self
 returns-then-t-self c = run_unmoved _ _ _ (sym c.in_range.ensures ∙ c.if-not-in_range.false) c.if-out-t.false c.if-t-self.true _ c.unmoved.ensures
 
 pub returns : goal.returns
-returns c = run_halted _ _ _ (sym c.in_range.ensures ∙ c.if-not-in_range.false) c.if-out-t.false _ _ c.room-room.ensures c.min-limit.ensures _ _ _ _ c.calls-called.ensures _ c.outcome.ensures
+returns c = run_halted _ _ _ (sym c.in_range.ensures ∙ c.if-not-in_range.false) c.if-out-t.false _ _ c.room-room.ensures c.min-limit.ensures _ _ _ _ c.calls-called.ensures _ c.outcome-answer.ensures

@@ -20,10 +20,10 @@ queue_long c = search rules
 
 pub word_back-requires : goal.word_back-requires
 word_back-requires c =
-    word_fits _ _ _ _ _ _ _ _ _ c.requires (lengths (goal.at.word_back-requires c).Start) (queue_long (goal.at.word_back-requires c).Start) _ c.wide-count.ensures.0
+    word_fits _ _ _ _ _ _ _ _ _ c.requires (lengths (goal.at.word_back-requires c).Start) (queue_long (goal.at.word_back-requires c).Start) _ c.from-count.ensures
 
 pub returns : goal.returns
 returns c =
     λ w s.
-    unloaded_is _ _ _ _ _ _ _ _ _ c.requires (lengths (goal.at.returns c).Start) (queue_long (goal.at.returns c).Start) _ c.wide-count.ensures.0 w s _ _ _ c.word_back.ensures
+    unloaded_is _ _ _ _ _ _ _ _ _ c.requires (lengths (goal.at.returns c).Start) (queue_long (goal.at.returns c).Start) _ c.from-count.ensures w s _ _ _ c.word_back.ensures
     c.counter_back.ensures

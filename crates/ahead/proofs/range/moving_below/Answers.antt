@@ -16,6 +16,6 @@ pub loop-i-preserved : goal.loop-i-preserved
 loop-i-preserved c =
     let a = c.args in
     let inside = c.loop-i-test.true in
-    let radix : get_or a.radices.now (c.wide-d.result - 1) 0 ≡ get_or (looked_up a.radices.now a.numbers.now) c.loop-i.i 0 =
-    ap (λ k. get_or a.radices.now (k - 1) 0) c.wide-d.ensures.0 ∙ sym (looked_up_at a.radices.now a.numbers.now c.loop-i.i inside) in
+    let radix : get_or a.radices.now (c.from-d.result - 1) 0 ≡ get_or (looked_up a.radices.now a.numbers.now) c.loop-i.i 0 =
+    ap (λ k. get_or a.radices.now (k - 1) 0) c.from-d.ensures ∙ sym (looked_up_at a.radices.now a.numbers.now c.loop-i.i inside) in
     (omega arith, tested_more _ _ _ _ c.loop-i.invariant.1 (ap (ltb (get_or a.counter.now c.loop-i.i 0)) radix))

@@ -6,9 +6,9 @@ use Rattle.reader.specs.Readers.{byte_read}
 use Rattle.reader.proofs.Readings.{full}
 use Rattle.reader.proofs.Reader.byte.Goals as goal
 
-pub returns-then-digits-ge3 : goal.returns-then-digits-ge3
-returns-then-digits-ge3 c = c.in_phase.ensures ∙ sym (full c.args.self c.args.byte c.if-digits-ge3.true)
+pub returns-then-self-ge3 : goal.returns-then-self-ge3
+returns-then-self-ge3 c = c.in_phase.ensures ∙ sym (full c.args.self c.args.byte c.if-self-ge3.true)
 
 pub returns : goal.returns
 unfolding byte_read
-returns c = rw (lt-ltb c.args.self.digits 3 (search rules)) refl
+returns c = rw (c.from.ensures, lt-ltb c.args.self.digits 3 (search rules)) refl

@@ -3,7 +3,6 @@ use Prim.Native.Nat.{ℕ, suc, ◌+◌, ◌≤◌, ◌<◌}
 use mathlib.Core.Path.{◌≡◌, sym, ap, ◌∙◌}
 use mathlib.Core.List.{List}
 use native.Mathlib.Numerals.{add-one}
-use native.Mathlib.Omega.{arith}
 use lib.ListN.{length, get_or, drop, drop_of_length-le}
 use lib.Seq.{drop-cons}
 use Rattle.reader.specs.Readers.{read_in, read}
@@ -20,13 +19,10 @@ done : (r s : Reader) (bytes : List ℕ) (i : ℕ) → length bytes ≤ i → re
 unfolding read
 done r s bytes i h e = sym (e ∙ ap (read s) (drop_of_length-le bytes h))
 
-pub loop-i-preserved : goal.loop-i-preserved
-loop-i-preserved c =
-    let bytes = c.args.bytes.now in (
-      omega arith,
-      c.loop-i.invariant.1 ∙ next _ _ bytes c.loop-i.i c.loop-i-test.true c.one-reader.ensures,
-    )
+pub loop-byte-preserved : goal.loop-byte-preserved
+loop-byte-preserved c =
+    c.loop-byte.invariant ∙ next _ _ c.args.bytes.now c.loop-byte.byte-index c.loop-byte-test.true c.one-reader.ensures
 
 pub returns : goal.returns
 returns c =
-    done _ _ c.args.bytes.now c.loop-i.i c.loop-i-test.false c.loop-i.invariant.1
+    done _ _ c.args.bytes.now c.loop-byte.byte-index c.loop-byte-test.false c.loop-byte.invariant

@@ -1,22 +1,39 @@
 -- `tides::calls::first_high` meets its contract. Assumes nothing.
-use mathlib.Core.Path.{refl}
-use borrow.Author.Tests.{lt-ltb, le-ltb, eq-eqb, ne_eqb}
-use lib.ListN.{length, get_or}
+use Rattle.std.specs.Prelude.{Option, Some, None, slice_get}
+use Rattle.std.specs.Option.{option_copied}
+use Prim.Native.Nat.{ℕ}
+use mathlib.Core.Path.{◌≡◌, refl, sym, ap, ◌∙◌}
+use mathlib.Core.Bool.{cond}
+use mathlib.Core.List.{List, [], ◌∷◌}
+use denote.Bor.{Bor}
+use borrow.Author.Tests.{eq-eqb, ne_eqb}
+use lib.Dec.{eqb}
+use lib.ListN.{get_or}
+use Rattle.gray_theory.specs.Bools.{impossible}
 use Rattle.tides.specs.Stages.{first_high}
 use Rattle.tides.proofs.calls.first_high.Goals as goal
 
-pub returns-then-file-lt-LINE : goal.returns-then-file-lt-LINE
+-- with a line in front
+by_line : (ls : List (List ℕ)) (line : List ℕ) → Some line ≡ slice_get ls 0
+    → first_high ls ≡ cond (eqb (get_or line 17 0) 76) 1 0
 unfolding first_high
-returns-then-file-lt-LINE c = rw (lt-ltb (length c.args.file.now) 19 c.if-file-lt-LINE.true) refl
+by_line [] line e = impossible (cc)
+by_line (l ∷ ls) line e = let same : l ≡ line = cc in ap (λ x. cond (eqb (get_or x 17 0) 76) 1 0) same
 
-pub returns-then-file-eq-LOW : goal.returns-then-file-eq-LOW
+without : (ls : List (List ℕ)) (r : Option (Bor (List ℕ))) → option_copied r ≡ slice_get ls 0 → r ≡ None → first_high ls ≡ 0
 unfolding first_high
-returns-then-file-eq-LOW c =
-    let file = c.args.file.now in
-    rw (le-ltb (length file) 19 c.if-file-lt-LINE.false, eq-eqb (get_or file 17 0) 76 c.if-file-eq-LOW.true) refl
+without [] r e is = refl
+without (l ∷ ls) r e is = let none = ap option_copied is in impossible (cc)
 
-pub returns : goal.returns
-unfolding first_high
-returns c =
-    let file = c.args.file.now in
-    rw (le-ltb (length file) 19 c.if-file-lt-LINE.false, ne_eqb (get_or file 17 0) 76 c.if-file-eq-LOW.false) refl
+pub returns-in-Some-clause-found : goal.returns-in-Some-clause-found
+returns-in-Some-clause-found c =
+    sym (by_line c.args.lines.now c.in-Some.line.now c.in-Some.ensures.value
+    ∙ ap (λ t. cond t 1 0) (eq-eqb (get_or c.in-Some.line.now 17 0) 76 c.if-line-eq76.true))
+
+pub returns-in_default-clause-found : goal.returns-in_default-clause-found
+returns-in_default-clause-found c =
+    sym (by_line c.args.lines.now c.in-Some.line.now c.in-Some.ensures.value
+    ∙ ap (λ t. cond t 1 0) (ne_eqb (get_or c.in-Some.line.now 17 0) 76 c.if-line-eq76.false))
+
+pub returns-in_default-2-clause-found : goal.returns-in_default-2-clause-found
+returns-in_default-2-clause-found c = sym (without c.args.lines.now _ c.first.ensures.value c.in_default.is)

@@ -1,13 +1,9 @@
--- `tides::calls::pass` meets its contract: the course is that of the lines before `at`, and the day that of the last of them.
+-- `tides::calls::pass` meets its contract: the course is that of the lines before `line`, and the day that of the last of them.
 -- Assumes nothing.
-use Prim.Native.Nat.{◌-◌}
-use lib.ListN.{length}
+use Rattle.std.proofs.Common.{◌*◌}
 use Rattle.tides.specs.Stages.{Right}
 use Rattle.tides.proofs.Courses.{Through}
 use Rattle.tides.proofs.calls.pass.Given as goal
 
-abbrev pub invariant-loop-at : goal.invariant-loop-at
-invariant-loop-at l = Through l.file l.minute l.at l.course × Right l.day
-
-abbrev pub decreases-loop-at : goal.decreases-loop-at
-decreases-loop-at l = length l.file - l.at
+abbrev pub invariant-loop-line : goal.invariant-loop-line
+invariant-loop-line l = Through l.fn.file l.fn.minute (19 * l.line-index) l.course × Right l.day

@@ -1,12 +1,14 @@
 -- `tides::line::leap_day` meets its contract. Assumes nothing.
-use borrow.Author.Tests.{eq-eqb, ne_eqb}
+use mathlib.Core.Path.{◌≡◌, refl, ◌∙◌}
+use mathlib.Core.Bool.{Bool, true, false, cond}
+use mir.Val.{bool_byte}
 use Rattle.tides.specs.Stages.{leap_day}
 use Rattle.tides.proofs.line.leap_day.Goals as goal
 
-pub returns-then-years-eq0 : goal.returns-then-years-eq0
-unfolding leap_day
-returns-then-years-eq0 c = rw (eq-eqb _ _ c.if-years-eq0.true)
+byte_is : (b : Bool) → bool_byte b ≡ cond b 1 0
+byte_is true = refl
+byte_is false = refl
 
-pub returns-else-years-eq0 : goal.returns-else-years-eq0
+pub returns : goal.returns
 unfolding leap_day
-returns-else-years-eq0 c = rw (ne_eqb _ _ c.if-years-eq0.false)
+returns c = c.from.ensures ∙ byte_is _

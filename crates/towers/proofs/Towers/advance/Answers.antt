@@ -21,14 +21,10 @@ state c = towers_as c.args.self
 lengths : (c : Start) → Arrays (state c)
 lengths c = search rules
 
-index-fits : (c : Start) → c.args.i < 48
-index-fits c =
-    let most = count_fits (state c) (lengths c) c.requires.0 in
-    let inside = c.requires.1 in
-    omega arith
-
-index-within : (c : After-index_at-at) → Arrays (towers_as c.args.self) → c.index_at-at.result < 48
-index-within c long =
+-- the digit's index is one of the arrays
+inside : (c : After-index_at-at) → c.index_at-at.result < 48
+inside c =
+    let long : Arrays (towers_as c.args.self) = search rules in
     digit_fits (towers_as c.args.self) long c.requires.0 _ c.last_radix-m.ensures c.args.i c.requires.1
     _
     c.index_at-at.ensures
@@ -41,34 +37,25 @@ index_at-at-requires c =
     number_held (towers_as c.args.self) (lengths (goal.at.index_at-at-requires c).Start) c.requires.0 c.args.i c.requires.1
 
 pub bounds-word-at : goal.bounds-word-at
-bounds-word-at c =
-    let at = goal.at.bounds-word-at c in
-    index-within at.After-index_at-at (lengths at.Start)
+bounds-word-at c = inside (goal.at.bounds-word-at c).After-index_at-at
 
 pub bounds-downs-at : goal.bounds-downs-at
-bounds-downs-at c =
-    let at = goal.at.bounds-downs-at c in
-    index-within at.After-index_at-at (lengths at.Start)
+bounds-downs-at c = inside (goal.at.bounds-downs-at c).After-index_at-at
 
 pub bounds-radices-at : goal.bounds-radices-at
-bounds-radices-at c =
-    let at = goal.at.bounds-radices-at c in
-    index-within at.After-index_at-at (lengths at.Start)
+bounds-radices-at c = inside (goal.at.bounds-radices-at c).After-index_at-at
 
 pub bounds-word-at-2 : goal.bounds-word-at-2
-bounds-word-at-2 c =
-    let at = goal.at.bounds-word-at-2 c in
-    index-within at.After-index_at-at (lengths at.Start)
+bounds-word-at-2 c = inside (goal.at.bounds-word-at-2 c).After-index_at-at
 
 pub bounds-downs-at-2 : goal.bounds-downs-at-2
-bounds-downs-at-2 c =
-    let at = goal.at.bounds-downs-at-2 c in
-    index-within at.After-index_at-at (lengths at.Start)
+bounds-downs-at-2 c = inside (goal.at.bounds-downs-at-2 c).After-index_at-at
 
 pub next_peg-requires : goal.next_peg-requires
 next_peg-requires c =
-    let at = goal.at.next_peg-requires c in (
-      index-fits at.Start,
+    let at = goal.at.next_peg-requires c in
+    let most = count_fits (towers_as c.args.self) (lengths at.Start) c.requires.0 in (
+      omega arith,
       peg_within (towers_as c.args.self) (lengths at.Start) c.requires.0 _ c.last_radix-m.ensures c.args.i
           c.requires.1
           (no_rest _ c.if-odd.false),

@@ -1,6 +1,5 @@
 -- `towers::Towers::calls` meets its contract: after k turns the local arrays are those of the state after k calls. Assumes
 -- nothing.
-use Prim.Native.Nat.{◌-◌}
 use Rattle.towers.specs.Structs.{towers_as}
 use Rattle.towers.specs.Stages.{state_of}
 use Rattle.towers.proofs.Runs.{RunSoFar}
@@ -12,6 +11,3 @@ invariant-loop-k l =
     (state_of l.self.radices l.self.n l.self.moving.digits l.self.moving.count l.word l.turn l.downs l.pegs)
     l.k
     l.out
-
-abbrev pub decreases-loop-k : goal.decreases-loop-k
-decreases-loop-k l = l.t - l.k

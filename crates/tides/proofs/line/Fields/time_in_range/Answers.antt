@@ -3,10 +3,10 @@ use Rattle.tides.specs.Stages.{time_ranged}
 use Rattle.tides.proofs.line.Answered.{failed, passed}
 use Rattle.tides.proofs.line.Fields.time_in_range.Goals as goal
 
-pub returns-then-not-among : goal.returns-then-not-among
+pub returns-then-among : goal.returns-then-among
 unfolding time_ranged
-returns-then-not-among c = rw (failed c.among.ensures c.if-not-among.true)
+returns-then-among c = rw (passed c.among.ensures c.if-among.true) c.among-then-among.ensures
 
-pub returns : goal.returns
+pub returns-else-among : goal.returns-else-among
 unfolding time_ranged
-returns c = rw (passed c.among.ensures c.if-not-among.false) c.among-2.ensures
+returns-else-among c = rw (failed c.among.ensures c.if-among.false) c.if-among.false

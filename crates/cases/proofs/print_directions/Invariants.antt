@@ -1,9 +1,0 @@
--- `cases::print_directions` meets its contract: it stays within the directions and ends. Assumes nothing.
-use Rattle.std.proofs.Common.{◌≤◌, length}
-use Rattle.cases.proofs.print_directions.Given as goal
-
-abbrev pub invariant-loop-i : goal.invariant-loop-i
-invariant-loop-i l = l.i ≤ length l.downs
-
-abbrev pub decreases-loop-i : goal.decreases-loop-i
-decreases-loop-i l = l.i

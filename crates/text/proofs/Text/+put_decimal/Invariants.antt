@@ -1,0 +1,5 @@
+-- `text::Text::put_decimal` ends: the tenth part is smaller. Assumes nothing.
+use Rattle.text.proofs.Text.+put_decimal.Given as goal
+
+abbrev pub decreases-put_decimal : goal.decreases-put_decimal
+decreases-put_decimal l = l.n

@@ -1,8 +1,0 @@
--- `text::put_ranked` meets its contract: three pieces, one after another. Assumes nothing.
-use native.Mathlib.Omega.{arith}
-use Rattle.text.proofs.Putting.{and_then}
-use Rattle.text.proofs.put_ranked.Goals as goal
-
-pub returns-clause-put : goal.returns-clause-put
-returns-clause-put c =
-    and_then (omega arith) (and_then (omega arith) c.put_number-a.ensures.put c.put-b.ensures) c.put_setting.ensures.put
