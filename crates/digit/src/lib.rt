@@ -73,7 +73,7 @@ fn passes(n: u8, number: u8, m: u8, digit: Directed) -> bool
 
 // The range rule for the setting and the directions of n digits, which both engines keep; where n is over 48, of all that the
 // arrays hold. The loop goes over all places, whatever n is, and gathers its tests with no way out in between: three turns on
-// vectors.
+// vectors. (n and arrays, here and below, as the states of both engines have them: memory is fixed, and docs/CALLS.md names them.)
 pub fn digits_in_range(
     n: u8,
     radices: [u8; DIGITS],

@@ -20,6 +20,7 @@ pub enum Engine {
 }
 
 impl Engine {
+    // (No `From`: docs/CALLS.md names these two.)
     pub fn of_walk(walk: Walk) -> Engine
         ensures { engine_as result ≡ buffered (walk_as walk) }
     {

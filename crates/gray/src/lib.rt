@@ -79,7 +79,7 @@ impl From<Refusal> for u8 {
     }
 }
 
-// The number of an answer's refusal; 0 where there is none.
+// The number of an answer's refusal; 0 where there is none. (No Option: its promise, `number_of`, has that 0.)
 pub fn number<T: Copy>(answer: Result<T, Refusal>) -> u8
     ensures { result ≡ number_of (answer_as answer) }
 {

@@ -4,7 +4,7 @@
 
 #![tactic(auto)]
 
-ghost use Rattle.std.specs.Prelude.{◌≡◌, ℕ, Bool, true, cond, ◌&&◌, ◌||◌, not, ◌+◌, ◌-◌, ◌≤◌, ◌<◌, eqb, leb, ltb, length, take, get_or};
+ghost use Rattle.std.specs.Prelude.{◌≡◌, ℕ, Bool, true, cond, ◌&&◌, not, ◌+◌, ◌-◌, ◌≤◌, ◌<◌, eqb, leb, length, take, get_or};
 ghost use Rattle.std.proofs.Math.Option.{some};
 ghost use Rattle.gray_theory.specs.Directions.{all_below, digit_in_range};
 ghost use Rattle.gray_theory.specs.DirectedWords.{fresh_with};
