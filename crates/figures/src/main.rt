@@ -28,7 +28,8 @@ struct Walked {
     ended: bool,
 }
 
-// (Each program has these few lines of its own: a crate for them would be no plainer.)
+// (By `io` and not `println!`: std's streams rest on more functions of C, and nothing more is to be assumed. A crate for the few
+// lines that programs share would be no plainer.)
 fn print(text: &[u8]) {
     io::write_all(1, text);
 }
