@@ -20,7 +20,7 @@ struct Tally {
     lists: usize,
 }
 
-// What agreed in a walk, and whether its last call answered the end.
+// What agreed in a walk, and whether its last call answered the end: three findings, none of which says whether another is there.
 #[derive(Clone, Copy)]
 struct Walked {
     settings: u64,
@@ -84,7 +84,8 @@ fn is_word_of(radices: &[u8], word: &[u8], rank: u64) -> bool {
     (written == Ok(word.len())) & out.starts_with(word)
 }
 
-// The words one after another from rank 0. `whole` says whether the lister wrote them all.
+// The words one after another from rank 0. `whole` says whether the lister wrote them all. (That there is a radix stands at each
+// caller too: a type for it would be no plainer.)
 fn compare(radices: &[u8], words: &[u8], listed: &[u8], whole: bool) -> Tally
     requires { 0 < length radices.now }
 {

@@ -65,7 +65,8 @@ fn print_refused(refusal: Refusal) {
     print(b"\n");
 }
 
-// A setting: its first n digits, the last of them first, joined by points.
+// A setting: its first n digits, the last of them first, joined by points. (That n is at most 48 stands at each caller too: a type
+// for it would be no plainer.)
 fn print_word(word: [u8; DIGITS], n: usize)
     requires { n ≤ 48 }
 {
