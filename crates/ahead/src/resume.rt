@@ -90,7 +90,7 @@ fn unfilled(
 
 impl Walk {
     // A survey picked up at a word (a setting). Refused: the state that came, and the refusal. Accepted: the state there with
-    // its buffer filled ahead, whatever came.
+    // its buffer filled ahead, whatever came. (By `let .. else`: document 01 names that form for stages of refusals.)
     pub fn resume(self, radices: &[u8], capacity: usize, word: &[u8]) -> (Walk, Result<(), Refusal>)
         ensures { opened_as result ≡ resume_of (walk_as self) radices.now capacity word.now }
     {
@@ -132,6 +132,7 @@ impl Walk {
         let mut counter = producer.counter;
         let mut queue = producer.queue;
         let mut at = producer.at;
+        // (No index is counted: a step may queue an entry, or not.)
         while at.queued < entries {
             at = places.work(&mut counter, &mut queue, at);
         }

@@ -184,6 +184,7 @@ impl Walk {
         };
         let mut done = 0;
         let mut stop = None;
+        // (No index is counted: a stretch makes up to so many moves.)
         while (done < limit) & stop.is_none() {
             let ran = stretch::run(
                 last,

@@ -1,4 +1,5 @@
-// The calls of the disk engine, and changes of its state.
+// The calls of the disk engine, and changes of its state. (Beside those of the buffered one: their fields have other names, and
+// a trait over both would be longer than what they share.)
 
 use crate::print::{Ran, Stepped, print_answer, print_lent, print_opening, print_towers};
 use crate::words::Given;

@@ -15,7 +15,7 @@ use gray::DIGITS;
 // The most digits as a byte.
 pub const MOST: u8 = DIGITS as u8;
 
-// A digit with its direction.
+// A digit with its direction, which is there at every digit.
 #[derive(Clone, Copy)]
 pub struct Directed {
     pub digit: u8,

@@ -20,7 +20,7 @@ struct Tally {
     lists: usize,
 }
 
-// What agreed in a walk, and whether its last call answered the end.
+// What agreed in a walk, and whether its last call answered the end: three findings, none of which says whether another is there.
 #[derive(Clone, Copy)]
 struct Walked {
     settings: u64,
@@ -28,7 +28,8 @@ struct Walked {
     ended: bool,
 }
 
-// (Each program has these few lines of its own: a crate for them would be no plainer.)
+// (By `io` and not `println!`: std's streams rest on more functions of C, and nothing more is to be assumed. A crate for the few
+// lines that programs share would be no plainer.)
 fn print(text: &[u8]) {
     io::write_all(1, text);
 }
@@ -83,7 +84,8 @@ fn is_word_of(radices: &[u8], word: &[u8], rank: u64) -> bool {
     (written == Ok(word.len())) & out.starts_with(word)
 }
 
-// The words one after another from rank 0. `whole` says whether the lister wrote them all.
+// The words one after another from rank 0. `whole` says whether the lister wrote them all. (That there is a radix stands at each
+// caller too: a type for it would be no plainer.)
 fn compare(radices: &[u8], words: &[u8], listed: &[u8], whole: bool) -> Tally
     requires { 0 < length radices.now }
 {

@@ -169,7 +169,8 @@ pub fn size(radices: &[u8]) -> Result<u64, Refusal>
     Ok(total)
 }
 
-// N again, once a survey and the capacity of its work-ahead buffer have passed refusals 2 to 5.
+// N again, once a survey and the capacity of its work-ahead buffer have passed refusals 2 to 5. (A stage's answer is taken apart
+// by `let .. else`, here, below and in the crates above: document 01 names that form.)
 pub fn survey_size(radices: &[u8], capacity: usize) -> Result<u64, Refusal>
     ensures { answer_as result ≡ survey_call radices.now capacity }
 {

@@ -9,7 +9,8 @@ use gray::{DIGITS, Refusal};
 use reader::{Found, Reader};
 use text_theory::Line;
 
-// (Each program has these few lines of its own: a crate for them would be no plainer.)
+// (By `io` and not `println!`: std's streams rest on more functions of C, and nothing more is to be assumed. A crate for the few
+// lines that programs share would be no plainer.)
 fn print(bytes: &[u8]) {
     io::write_all(1, bytes);
 }

@@ -159,7 +159,8 @@ fn square(
 
 // The upward lister: i digits stand fixed in `word`, and the next one goes through its notches, 0 first. After an even notch
 // the digits that remain are listed upward too, after an odd one downward.
-// (Radices and sizes are two parameters: of a struct of references each clause would have to say at which moment it means it.)
+// (Radices and sizes are two parameters, here and in all the listers' parts: of a struct of references each clause would have to
+// say at which moment it means it.)
 #[cycle(listers)]
 fn up(
     radices: &[u8],
@@ -287,7 +288,8 @@ fn within(total: u64, from: u64, count: u64) -> bool
     from <= total && count <= total - from
 }
 
-// The settings of ranks `from` to `from + count - 1`, one after another, at the start of `out`.
+// The settings of ranks `from` to `from + count - 1`, one after another, at the start of `out`. (By `let .. else`: document 01
+// names that form for a stage of refusals.)
 pub fn list(radices: &[u8], from: u64, count: u64, out: &mut [u8]) -> Result<usize, Refusal>
     ensures { Wrote (list_call radices.now from count) (answer_as result) out.old out.new }
 {

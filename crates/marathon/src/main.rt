@@ -19,7 +19,8 @@ enum Unended {
     Unfinished,
 }
 
-// (Each program has these few lines of its own: a crate for them would be no plainer.)
+// (By `io` and not `println!`: std's streams rest on more functions of C, and nothing more is to be assumed. A crate for the few
+// lines that programs share would be no plainer.)
 fn print(bytes: &[u8]) {
     io::write_all(1, bytes);
 }
@@ -64,7 +65,8 @@ fn print_refused(refusal: Refusal) {
     print(b"\n");
 }
 
-// A setting: its first n digits, the last of them first, joined by points.
+// A setting: its first n digits, the last of them first, joined by points. (That n is at most 48 stands at each caller too: a type
+// for it would be no plainer.)
 fn print_word(word: [u8; DIGITS], n: usize)
     requires { n ≤ 48 }
 {

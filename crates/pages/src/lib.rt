@@ -127,7 +127,7 @@ impl Printing {
         )
     }
 
-    // As many whole lines as the page holds, from its start on.
+    // As many whole lines as the page holds, from its start on. (No index is counted: lines are of any length.)
     pub fn fill(self, page: &mut [u8]) -> Filled
         ensures { filled_as result page.new ≡ filling (printing_as self) page.old }
     {

@@ -23,7 +23,8 @@ fn run_moves(walk: Walk, t: u64, out: &mut [u8]) -> Result<Running, Refusal>
     answer
 }
 
-// At most t moves of a fresh walk by the buffered engine.
+// At most t moves of a fresh walk by the buffered engine. (By `let .. else`, here and below: document 01 names that form for a
+// stage of refusals.)
 #[tactic(auto, unfolding(runs_theory::specs::MoveCalls::walk_moves_call))]
 pub fn walk_moves(
     radices: &[u8],

@@ -117,7 +117,7 @@ fn undo(rest: &mut [u8], from: usize, to: usize)
     }
 }
 
-// The byte of a move the other way.
+// The byte of a move the other way. (By adding 128 or taking it, as `turned_byte` says of every byte; the log's `turned` differs.)
 fn turned(byte: u8) -> u8
     ensures { result ≡ turned_byte byte }
 {
@@ -141,8 +141,8 @@ fn advance(tops: &[u8], left: &mut [u8], bytes: &mut [u8], i: usize) -> u8
 }
 
 // A call after k removals: two work steps, then the removal of the oldest entry. The numbers then, and what it says. That the
-// call is dry is seen after its steps, which is quicker, since it is rare. (Arrays come one by one here too: as a struct of lent
-// slices each clause would name the struct, the array and the moment, and be no plainer.)
+// call is dry is seen after its steps, which is quicker, since it is rare. (Arrays come one by one here and below: as a struct of
+// lent slices each clause would name the struct, the array and the moment, and be no plainer.)
 fn call(
     last: usize,
     c: usize,

@@ -11,7 +11,8 @@ use crate::course::{Course, MOVE_TIME, WAIT};
 use crate::line::{Day, LINE, Line, minute_of, read_line};
 use gray::Refusal;
 
-// A file that is in order: how many windows it has, and whether one allows the minute that is asked for.
+// A file that is in order: how many windows it has, and whether one allows the minute that is asked for. (Two answers: neither
+// says whether the other is there.)
 #[derive(Clone, Copy)]
 struct Passed {
     windows: usize,
@@ -77,7 +78,8 @@ fn put_counts(file: &[u8], out: &mut [u32])
 }
 
 // How many moves fit in each window, in file order at the start of `out`; the number of windows. What is written can be known
-// only once the whole file has been read, so the lines are gone through again then.
+// only once the whole file has been read, so the lines are gone through again then. (By `let .. else`, here and below: document
+// 01 names that form for a stage of refusals.)
 pub fn counts(file: &[u8], out: &mut [u32]) -> Result<usize, Refusal>
     ensures { Wrote (counts_call file.now) (answer_as result) out.old out.new }
 {

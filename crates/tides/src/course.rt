@@ -15,7 +15,8 @@ pub(crate) const MOVE_TIME: u64 = 4;
 const WAIT_LEFT: u64 = WAIT - 1;
 
 // Behind some lines: the least minute that the next may have, and the last letter, where there is one; whether the lines are in
-// order; how many windows they have; and whether one of these allows the minute that is asked for.
+// order; how many windows they have; and whether one of these allows the minute that is asked for. (None of them says whether
+// another is there.)
 #[derive(Clone, Copy)]
 pub(crate) struct Course {
     pub(crate) next: u64,

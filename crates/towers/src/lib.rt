@@ -23,7 +23,7 @@ use gray::{DIGITS, Refusal, Running, Stepping};
 // The state: the survey (radices and their number n), the word (setting), the turn, the directions (down or not), the digits
 // that move, in rising order, and the pegs. For odd radices the turn says which pair of pegs is next, 0 for the left one; a
 // disk's peg follows from its digit, and the array of pegs plays no part. For even ones the turn counts the moves of disk 1 in
-// its sweep, and each disk's peg is stored.
+// its sweep, and each disk's peg is stored. (Arrays with counts: document 01's state, in fixed memory.)
 #[derive(Clone, Copy)]
 pub struct Towers {
     pub radices: [u8; DIGITS],
@@ -281,6 +281,7 @@ impl Towers {
     }
 
     // Refused: the state that came, and why. Accepted: the fresh state, whatever came.
+    // (By `let .. else`: document 01 names that form for a stage of refusals.)
     pub fn open(self, radices: &[u8]) -> (Towers, Result<(), Refusal>)
         ensures { opened_as result ≡ open_of (towers_as self) radices.now }
     {

@@ -63,7 +63,7 @@ fn rank_from(radices: &[u8], word: &[u8]) -> u64
     p
 }
 
-// The rank of a word: first it is tested, then ranked.
+// The rank of a word: first it is tested, then ranked. (By `let .. else`: document 01 names that form for stages of refusals.)
 pub fn rank(radices: &[u8], word: &[u8]) -> Result<u64, Refusal>
     ensures { answer_as result ≡ rank_call radices.now word.now }
 {
