@@ -1,4 +1,5 @@
 // The parts of a line: words, and lists of numbers.
+ghost use Rattle.std.specs.Prelude.{◌≤◌, length, IfSome};
 
 const SEPARATORS: &[u8] = b" ,";
 
@@ -45,7 +46,9 @@ where
 }
 
 // The same numbers as bytes, where all of them are and there is room for them.
-pub(crate) fn narrow<'a>(numbers: &[u64], room: &'a mut [u8]) -> Option<&'a [u8]> {
+pub(crate) fn narrow<'a>(numbers: &[u64], room: &'a mut [u8]) -> Option<&'a [u8]>
+    ensures { IfSome result (λ part. length part.now ≤ length room.old) }
+{
     let bytes = room.get_mut(..numbers.len())?;
     for (byte, &number) in bytes.iter_mut().zip(numbers) {
         *byte = u8::try_from(number).ok()?;

@@ -149,8 +149,10 @@ fn all_move(n: u8, radices: [u8; DIGITS], held: [u8; DIGITS]) -> bool
     ensures { result ≡ all_below (length (take n radices)) (λ i. leb 2 (get_or radices i 0) && eqb (get_or held i 0) (i + 1)) }
 {
     let mut ok = true;
+    let mut number: u8 = 0;
     for i in 0..DIGITS {
-        ok &= moves(n, i as u8 + 1, radices[i], held[i]);
+        number += 1;
+        ok &= moves(n, number, radices[i], held[i]);
     }
     ok
 }

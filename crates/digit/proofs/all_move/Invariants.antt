@@ -9,4 +9,4 @@ use Rattle.digit.proofs.all_move.Given as goal
 
 abbrev pub invariant-loop-i : goal.invariant-loop-i
 invariant-loop-i l =
-    l.ok ≡ all_below l.i (λ j. ltb l.n (j + 1) || (leb 2 (get_or l.radices j 0) && eqb (get_or l.held j 0) (j + 1)))
+    (l.number ≡ l.i) × (l.ok ≡ all_below l.i (λ j. ltb l.n (j + 1) || (leb 2 (get_or l.radices j 0) && eqb (get_or l.held j 0) (j + 1))))
