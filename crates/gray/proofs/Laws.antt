@@ -19,13 +19,15 @@ use Rattle.gray_theory.proofs.Faults.{lowest_fault_is_given}
 use Rattle.gray_theory.proofs.Refusals.{accepted, radices_accepted}
 use Rattle.std.specs.Prelude.{Option, Some, None}
 use Rattle.std.specs.Option.{ok_or}
+use Rattle.std.specs.Bool.{MatchBool}
+use Rattle.std.specs.List.{AllWithin, HoldsAt}
 use Rattle.gray.specs.Enums.{answer_as}
 use Rattle.gray.specs.declared.Refusal.TheVariants.{Word}
 use Rattle.gray.specs.Stages.{product_as, Multiplied, digit_as, two_as, pair_as, place_as}
 use Rattle.gray_theory.specs.Words.{is_word, reflect, rank, member}
 use Rattle.gray_theory.specs.Indexed.{word_at}
 use Rattle.gray_theory.proofs.Members.{member_is_word_at, length-word_at}
-use Rattle.gray_theory.proofs.Digits.{digits_more_lem, size_taken}
+use Rattle.gray_theory.proofs.Digits.{digits_more_lem, radix_from, size_taken}
 use Rattle.gray_theory.proofs.Ranking.{two_as_one, two_below, below_more, below_all, rank_more, rank_all, not_below, word_refused, word_ranked}
 use Rattle.gray_theory.proofs.Sizes.{size-append, size_pos, size_none}
 use Rattle.gray_theory.specs.Bools.{impossible}
@@ -39,11 +41,23 @@ pub tested_more : (k : ℕ) (l : List ℕ) (i : ℕ) (ok : Bool)
 unfolding all_from
 tested_more k l i ok h e = rw (digits_more_lem l i h) (ap (λ t. leb k (get_or l i 0) && t) e)
 
-pub tested_all : (k : ℕ) (l : List ℕ) (i : ℕ) (ok : Bool)
-    → length l ≤ i
-    → ok ≡ all_from k (digits (take i l))
-    → ok ≡ all_from k (digits l)
-tested_all k l i ok h e = e ∙ ap (λ t. all_from k (digits t)) (take_all i l h)
+-- each radix by itself, and all of them
+tested_to : (k : ℕ) (l : List ℕ) (i : ℕ) → i ≤ length l → AllWithin (λ m. k ≤ m) l 0 (length l) → true ≡ all_from k (digits (take i l))
+unfolding all_from
+tested_to k l zero h w = refl
+tested_to k l (suc i) h w =
+    sym (ap (λ t. t && true) (le-leb k (get_or l i 0) (w i 0 (omega arith) (omega arith))))
+    ∙ tested_more k l i true (omega arith) (tested_to k l i (omega arith) w)
+    ∙ ap (λ j. all_from k (digits (take j l))) (add-one i)
+
+pub tested_by_each : (l : List ℕ) (r : Bool)
+    → MatchBool r (AllWithin (λ m. 1 ≤ m) l 0 (length l)) ((i : ℕ) × (i < length l) × HoldsAt (λ m. m < 1) l i)
+    → r ≡ all_from 1 (digits l)
+tested_by_each l true w = tested_to 1 l (length l) (omega arith) w ∙ ap (λ t. all_from 1 (digits t)) (take_all (length l) l (omega arith))
+tested_by_each l false (i, h, low) =
+    sym
+    (never_true (all_from 1 (digits l))
+    (λ e. let least = radix_from 1 l i h e in let none : get_or l i 0 < 1 = low 0 in absurd (omega arith)))
 
 -- ---- products within 2^62 and over it
 pub within : (n : ℕ) → n ≤ 2 ^ 62 → Some n ≡ product_as n

@@ -89,15 +89,10 @@ pub fn number<T: Copy>(answer: Result<T, Refusal>) -> u8
     }
 }
 
-// The test is gathered over all bytes, with no way out in between, so that the loop can run on vectors.
 fn none_zero(radices: &[u8]) -> bool
     ensures { result ≡ all_from 1 (digits radices.now) }
 {
-    let mut ok = true;
-    for &m in radices {
-        ok = (1 <= m) & ok;
-    }
-    ok
+    radices.iter().all(|&m| 1 <= m)
 }
 
 // Of at most eight radices, so 64 bits hold it: 255^8 is below 2^64.
